@@ -218,6 +218,9 @@ def test_options(tests):
         saved = tests.path("tree.json").read_text()
         tests.check(f"the saved tree of {words}", run.status == 0 and saved == run.out.rstrip("\n").split("\n")[-1] + "\n", saved)
         tests.check(f"{words}: nothing is left beside the tree", not tests.path("tree.json.part").exists(), "it is there")
+    tests.path("epochs.json").write_text('{"epochs":[[["add",[0,1]]],[["add",[0,2]]]]}')
+    run = tests.run("run", "--tree", "examples/one-node.json", "--workers", "1", "--proc", "add=examples/add.asm", "--save", "tree.json", "epochs.json")
+    tests.check("the saved tree is that of the last epoch", run.status == 0 and tests.path("tree.json").read_text() == '{"parents":[0],"records":[[8,0,0,0,0,0,0,0]]}\n', run)
     run = tests.run(*ALONE, "--save", "tree.json", out=FULL)
     tests.check("the tree is saved before the result is printed", tests.path("tree.json").read_text().startswith("{"), run)
     out = '{"batch":[{"call":0,"reply":[5]}]}\n{"order":[0]}\n' + ONE_NODE_OUT
@@ -279,6 +282,9 @@ def test_sources(tests):
     tests.path("wrong.tlp").write_text(two)
     tests.answers("run with a container that is none", bare + ["--proc", "two=wrong.tlp", "twos.json"], 1, error_line([201]), re.compile(r"^treedb: .+\n\Z"))
     tests.answers("run with a file that isn't there", bare + ["--proc", "two=none.tlp", "twos.json"], 3, error_line([31]), re.compile("^treedb: none.tlp can't be read"))
+    tests.answers("a file of procedures is judged before the next one is read", bare + ["--proc", "two=wrong.tlp", "--proc", "none.tdb", "twos.json"], 1, error_line([201]), re.compile(r"^treedb: .+\n\Z"))
+    tests.answers("files of procedures are judged before the tree", ["run", "--tree", "examples/add.asm", "--workers", "1", "--proc", "wrong.tdb", "twos.json"], 1, error_line([273, 2, 14]),
+                  re.compile(r"^wrong.tdb:2:14\n        emit 1 \+ ;\n {17}\^\ntreedb: the text: "))
     tests.path("moves.json").write_text('{"moves":[["two",[]],0,0]}')
     run = tests.run("drive", "--tree", "examples/one-node.json", "--proc", "two.tdb", "moves.json")
     tests.check("drive with a text", run.status == 0 and run.out.startswith('{"trace":[["a",0],'), run)
@@ -368,7 +374,7 @@ def test_epochs(tests):
     run = tests.run(*words[:6], "nowhere/there is none", words[7])
     tests.check("a chain that can't be written", run.status == 3 and run.out == error_line([32]) and "can't be written" in run.err, run)
     tests.path("chain.json").write_text("as before")
-    tests.answers("a run that is refused", words[:7] + ["examples/add.asm"], 1, error_line([731]), re.compile("^treedb: "))
+    tests.answers("a run that is refused", words[:7] + ["examples/add.asm"], 1, error_line([731]), re.compile(r"^(examples/add.asm:1:1\n.+\n.+\n)?treedb: "))
     tests.check("and leaves the chain as it was", tests.bytes("chain.json") == b"as before", words)
 
     register = json.dumps({"op": "register", "name": "add", "asm": add})

@@ -10,7 +10,7 @@ use std::alloc::Global;
 use std::rt::Files;
 use tl_generations::{GrowthFault, Succession};
 use tl_server::Keeper;
-use tl_tree::write_tree;
+use tl_tree::Tree;
 use tl_workers::{Engine, Session};
 
 /// Where the trails of the generations go.
@@ -25,9 +25,12 @@ pub enum Trails {
 
 /// What a server's engines did, once all are closed.
 pub trait Finish {
-    /// Takes and writes what the last engine did, if that isn't done yet. Answers how many engines were closed, and the text of the
-    /// tree that the last one left. 831 if an engine didn't close, or didn't begin with what the one before left.
-    fn finish(&mut self, alloc: Global) -> Result<(u64, String), CliFault>;
+    /// Takes and writes what the last engine did, if that isn't done yet. Answers how many engines were closed. 831 if an engine
+    /// didn't close, or didn't begin with what the one before left.
+    fn finish(&mut self, alloc: Global) -> Result<u64, CliFault>;
+
+    /// The tree that the last engine left.
+    fn tree(&self) -> &Tree;
 
     /// Why a file wasn't written, of the first one that wasn't.
     fn unwritten(&self) -> Option<CliFault>;
@@ -126,16 +129,17 @@ impl<R: Files + Eprint> Archive<R> {
 }
 
 impl<R: Files + Eprint> Finish for Archive<R> {
-    fn finish(&mut self, alloc: Global) -> Result<(u64, String), CliFault> {
+    fn finish(&mut self, alloc: Global) -> Result<u64, CliFault> {
         if let Some(fault) = self.broken {
             return Err(fault);
         }
         self.take(alloc)?;
         self.keep_closed(alloc);
-        match write_tree(alloc, self.succession.last().tree()) {
-            Ok(tree) => Ok((self.count, tree)),
-            Err(fault) => Err(CliFault::Tree(fault)),
-        }
+        Ok(self.count)
+    }
+
+    fn tree(&self) -> &Tree {
+        self.succession.last().tree()
     }
 
     fn unwritten(&self) -> Option<CliFault> {

@@ -25,10 +25,9 @@ use std::time::Clock;
 use tl_arguments::Asked;
 pub use tl_commands::{
     CliFault, Generation, Inputs, alone_cmd, asm_cmd, audit_cmd, audit_next_cmd, check_cmd,
-    close_generation, conclude_engine, conclude_engine_with_trail, dis_cmd, drive_cmd,
-    drive_with_trail_cmd, explain_audit_fault, keep_generation, migrate_cmd, next_engine,
-    open_engine, open_generations, run_cmd, run_with_trail_cmd, take_generation, tree_of_file,
-    verify_cmd, widen_cmd,
+    close_generation, dis_cmd, drive_cmd, end_generation, explain_audit_fault, generations_lines,
+    keep_generation, migrate_cmd, next_engine, open_engine, open_generations, run_cmd,
+    take_generation, tree_file, tree_of_file, verify_cmd, widen_cmd,
 };
 use tl_file_export::{Epochs, open_epochs};
 use tl_file_journal::{End, StoreRefusal, Stored, open_stored};

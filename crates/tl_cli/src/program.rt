@@ -13,11 +13,11 @@ use crate::failure::Failure;
 use crate::refused::{RefusedProcedure, first_refused};
 use crate::trail_file::TrailFile;
 use crate::{
-    CliFault, Inputs, LanguageFault, alone_cmd, asm_cmd, check_cmd, check_procs_cmd, compile_cmd,
-    dis_cmd, drive_cmd, drive_with_trail_cmd, migrate_cmd, output, procs_cmd, run_cmd,
-    run_with_trail_cmd, verify_cmd, widen_cmd,
+    CliFault, Generation, Inputs, LanguageFault, alone_cmd, asm_cmd, check_cmd, check_procs_cmd,
+    compile_cmd, dis_cmd, drive_cmd, keep_generation, migrate_cmd, output, procs_cmd, run_cmd,
+    tree_file, verify_cmd, widen_cmd,
 };
-use sources::source_by_name;
+use sources::{SourceFile, all_of, source_by_name};
 use std::io::ErrorKind;
 use std::net::{Net, TcpListener, TcpStream};
 use std::rt::Files;
@@ -30,7 +30,7 @@ use tl_file_export::Epochs;
 use tl_file_journal::{End, StoreRefusal, Stored};
 use tl_generations::Succession;
 use tl_server::{Journal, Keeper, Texts};
-use tl_sources::Source;
+use tl_sources::{Given, Source};
 use tl_store_file::FileFault;
 use tl_syntax::Position;
 use tl_tree::Tree;
@@ -42,6 +42,26 @@ use tl_workers::{MAX_WORKERS, NoGate};
 struct Named<'a> {
     path: &'a str,
     bytes: Vec<u8>,
+}
+
+// The files that a script is carried out on.
+#[derive(Drop)]
+struct Scripted<'a> {
+    tree: Named<'a>,
+    script: Named<'a>,
+    sources: Vec<SourceFile<'a>>,
+}
+
+impl Scripted<'_> {
+    // What they have, where the files of procedures give these, and the tree may have so many nodes.
+    fn inputs<'n>(&'n self, sources: &'n [Given<'n>], limit: u16) -> Inputs<'n> {
+        Inputs {
+            tree: &self.tree.bytes,
+            script: &self.script.bytes,
+            sources,
+            limit,
+        }
+    }
 }
 
 /// Whether the file has a text of the procedure language, by its name.
@@ -92,15 +112,23 @@ impl<'a, R: Files + Print + Eprint + AllocGlobal> Program<'a, R> {
         procedure: &'p str,
         name: Option<&str>,
         args: &str,
+        save: Option<&'p str>,
     ) -> Result<String, Failure<'p>> {
         let tree = self.read_file(path)?;
         let file = self.read_file(procedure)?;
         let source = source_by_name(procedure, &file).unwrap_or(Source::Container(&file));
-        let done = alone_cmd(self.rt.alloc(), &tree, source, name, args, self.nodes);
-        done.map_err(|fault| match fault {
-            CliFault::Source(_) => self.misread(procedure, &file, fault),
-            fault => self.misread(path, &tree, fault),
-        })
+        let ran = match alone_cmd(self.rt.alloc(), &tree, source, name, args, self.nodes) {
+            Ok(ran) => ran,
+            Err(fault) => {
+                return Err(match fault {
+                    CliFault::Source(_) => self.misread(procedure, &file, fault),
+                    fault => self.misread(path, &tree, fault),
+                });
+            }
+        };
+        let lines = ran.lines(self.rt.alloc())?;
+        self.save(save, ran.tree())?;
+        Ok(lines)
     }
 
     // Returns the fault of a text, and shows people where it is.
@@ -208,30 +236,30 @@ impl<'a, R: Files + Print + Eprint + AllocGlobal> Program<'a, R> {
         })
     }
 
-    // What a script is carried out on, where the tree and the script were read: and the procedures that the command line names beside the
-    // script's own.
-    fn inputs<'n, 'p>(
+    // The files that a script is carried out on: the tree's, the script's, and those of the procedures that the command line names beside
+    // the script's own.
+    fn read_scripted<'p>(
         &self,
-        tree: &'n Named<'_>,
-        script: &'n Named<'_>,
-        names: &[&'p str],
-    ) -> Result<Inputs<'n>, Failure<'p>> {
-        Ok(Inputs {
-            tree: &tree.bytes,
-            script: &script.bytes,
-            procedures: self.all_named_procedures(names)?,
-            limit: self.nodes,
+        tree: &'p str,
+        files: &ScriptFiles<'p>,
+    ) -> Result<Scripted<'p>, Failure<'p>> {
+        let ScriptFiles { script, procedures } = files;
+        Ok(Scripted {
+            tree: self.read_named(tree)?,
+            script: self.read_named(script)?,
+            sources: self.read_sources(procedures)?,
         })
     }
 
     // Returns the fault of a script on a tree. If one of its procedures is refused, people are shown which, and where.
-    fn misread_script<'p>(
-        &self,
-        tree: &Named<'_>,
-        script: &Named<'_>,
-        fault: CliFault,
-    ) -> Failure<'p> {
+    fn misread_script<'p>(&self, files: &Scripted<'_>, fault: CliFault) -> Failure<'p> {
+        let Scripted {
+            tree,
+            script,
+            sources,
+        } = files;
         match fault {
+            CliFault::Sources(refused) => self.misread_source(sources, refused),
             CliFault::Tree(_) => self.misread(tree.path, &tree.bytes, fault),
             CliFault::Register(_) => {
                 if let Some(RefusedProcedure { name, text, fault }) = first_refused(
@@ -247,34 +275,49 @@ impl<'a, R: Files + Print + Eprint + AllocGlobal> Program<'a, R> {
         }
     }
 
-    // The trail is written to a file if one is named.
+    // What is written besides is written if a file is named for it.
     fn drive<'p>(
         &self,
         tree: &'p str,
         files: &ScriptFiles<'p>,
-        trail: Option<&'p str>,
+        outputs: Outputs<'p>,
     ) -> Result<String, Failure<'p>> {
-        let tree = self.read_named(tree)?;
-        let ScriptFiles { script, procedures } = files;
-        let script = self.read_named(script)?;
-        let inputs = self.inputs(&tree, &script, procedures)?;
-        let Some(path) = trail else {
-            let driven = drive_cmd(self.rt.alloc(), inputs);
-            return driven.map_err(|fault| self.misread_script(&tree, &script, fault));
-        };
-        let (lines, trail) = match drive_with_trail_cmd(self.rt.alloc(), inputs) {
+        let alloc = self.rt.alloc();
+        let files = self.read_scripted(tree, files)?;
+        let given = all_of(alloc, &files.sources)?;
+        let driven = match drive_cmd(alloc, files.inputs(&given, self.nodes)) {
             Ok(driven) => driven,
-            Err(fault) => return Err(self.misread_script(&tree, &script, fault)),
+            Err(fault) => return Err(self.misread_script(&files, fault)),
         };
-        self.write_file(path, trail.as_bytes())?;
+        let lines = driven.lines(alloc)?;
+        if let Some(path) = outputs.trail {
+            self.write_file(path, driven.trail_file(alloc)?.as_bytes())?;
+        }
+        self.save(outputs.tree, driven.tree())?;
         Ok(lines)
     }
 
-    // Writes the tree, which is the last of the printed lines, and a LF after it. It is written next to the file and then
-    // renamed, so that the file never has a part of a tree.
-    fn save<'p>(&self, path: &'p str, lines: &str) -> Result<(), Failure<'p>> {
-        let tree = lines.trim_end().split('\n').last().unwrap_or(lines);
-        let text = format!(in self.rt.alloc(); "{tree}\n")?;
+    // Writes the trails of closed epochs to a file, if one is named.
+    fn keep<'p>(&self, path: Option<&'p str>, epochs: &Generation) -> Result<(), Failure<'p>> {
+        let Some(path) = path else {
+            return Ok(());
+        };
+        let mut file = TrailFile::new(self.rt, path);
+        let kept = keep_generation(self.rt.alloc(), epochs, &mut file);
+        match (kept, file.into_reason()) {
+            (Ok(()), _) => Ok(()),
+            (Err(CliFault::Unwritable), Some(reason)) => Err(Failure::Unwritable { path, reason }),
+            (Err(fault), _) => Err(Failure::Refused(fault)),
+        }
+    }
+
+    // Writes a tree to a file, if one is named. It is written next to the file and then renamed, so that the file never has a
+    // part of a tree.
+    fn save<'p>(&self, path: Option<&'p str>, tree: &Tree) -> Result<(), Failure<'p>> {
+        let Some(path) = path else {
+            return Ok(());
+        };
+        let text = tree_file(self.rt.alloc(), tree)?;
         let part = format!(in self.rt.alloc(); "{path}.part")?;
         let written = std::fs::write(self.rt, part.as_str(), text.as_bytes());
         match written.and_then(|()| std::fs::rename(self.rt, part.as_str(), path)) {
@@ -284,42 +327,29 @@ impl<'a, R: Files + Print + Eprint + AllocGlobal> Program<'a, R> {
     }
 }
 
-// What is printed after a trail's file was written, or why it wasn't.
-fn printed<'p, R: Files>(
-    path: &'p str,
-    file: TrailFile<'_, R>,
-    answer: Result<String, CliFault>,
-) -> Result<String, Failure<'p>> {
-    match (answer, file.into_reason()) {
-        (Ok(lines), _) => Ok(lines),
-        (Err(CliFault::Unwritable), Some(reason)) => Err(Failure::Unwritable { path, reason }),
-        (Err(fault), _) => Err(Failure::Refused(fault)),
-    }
-}
-
 impl<'a, R: Files + Print + Eprint + AllocGlobal + Threads + Wait + Sync> Program<'a, R> {
-    // The trail is written to a file if one is named.
+    // What is written besides is written if a file is named for it.
     fn run<'p>(
         &self,
         tree: &'p str,
         workers: usize,
         files: &ScriptFiles<'p>,
-        trail: Option<&'p str>,
+        outputs: Outputs<'p>,
     ) -> Result<String, Failure<'p>> {
-        let tree = self.read_named(tree)?;
-        let ScriptFiles { script, procedures } = files;
-        let script = self.read_named(script)?;
-        let inputs = self.inputs(&tree, &script, procedures)?;
         let alloc = self.rt.alloc();
+        let files = self.read_scripted(tree, files)?;
+        let given = all_of(alloc, &files.sources)?;
+        let inputs = files.inputs(&given, self.nodes);
         // The command line takes no other numbers.
         let workers = workers.clamp(1, MAX_WORKERS);
-        let Some(path) = trail else {
-            let ran = run_cmd(self.rt, alloc, inputs, workers, &NoGate);
-            return ran.map_err(|fault| self.misread_script(&tree, &script, fault));
+        let ran = match run_cmd(self.rt, alloc, inputs, workers, &NoGate) {
+            Ok(ran) => ran,
+            Err(fault) => return Err(self.misread_script(&files, fault)),
         };
-        let mut file = TrailFile::new(self.rt, path);
-        let ran = run_with_trail_cmd(self.rt, alloc, inputs, workers, &NoGate, &mut file);
-        printed(path, file, ran)
+        let lines = ran.lines(alloc)?;
+        self.keep(outputs.trail, ran.epochs())?;
+        self.save(outputs.tree, ran.epochs().tree())?;
+        Ok(lines)
     }
 }
 
@@ -337,7 +367,7 @@ where
         + Drop
         + Sync,
 {
-    // What a command that runs calls prints. If a file is named for the final tree, it is written before that.
+    // What a command that runs calls prints. If files are named for the trail and for the final tree, they are written before that.
     fn answer_calls<'p, K, F>(
         &self,
         tree: &'p str,
@@ -350,24 +380,19 @@ where
         F: FnOnce(Trails, Succession, u16) -> K + Drop,
         requires { F.IsAlwaysCallable archive }
     {
-        let trail = outputs.trail;
-        let lines = match command {
+        match command {
             CallCommand::Alone {
                 procedure,
                 name,
                 args,
-            } => self.alone(tree, procedure, *name, args)?,
-            CallCommand::Drive { script } => self.drive(tree, script, trail)?,
-            CallCommand::Run { workers, script } => self.run(tree, *workers, script, trail)?,
+            } => self.alone(tree, procedure, *name, args, outputs.tree),
+            CallCommand::Drive { script } => self.drive(tree, script, outputs),
+            CallCommand::Run { workers, script } => self.run(tree, *workers, script, outputs),
             CallCommand::Serve {
                 options,
                 procedures,
-            } => self.serve(tree, *options, procedures, outputs, archive)?,
-        };
-        if let Some(path) = outputs.tree {
-            self.save(path, &lines)?;
+            } => self.serve(tree, *options, procedures, outputs, archive),
         }
-        Ok(lines)
     }
 
     // What a command on files alone prints.
@@ -438,11 +463,7 @@ where
                     copies: *copies,
                     save: *save,
                 };
-                let lines = self.serve_store(files, *options, procedures, archive, opens)?;
-                if let Some(path) = save {
-                    self.save(path, &lines)?;
-                }
-                Ok(lines)
+                self.serve_store(files, *options, procedures, archive, opens)
             }
             Request::Files(command) => self.answer_files(*command),
             Request::Audit { trails, explains } => self.audit(trails, *explains, epochs),

@@ -1,15 +1,16 @@
 -- The text of the first line.
-use Rattle.std.proofs.Common.{◌≡◌, ℕ, ℤ, pos, List, [], ◌∷◌, ◌++◌, length, false, codes, decimal, refl, sym, ap, ap₂, ◌∙◌, append_assoc}
+use Rattle.std.proofs.Common.{◌≡◌, ℕ, ℤ, pos, List, ◌++◌, false, codes, decimal, refl, sym, ap, ap₂, ◌∙◌, append_assoc}
 use Rattle.std.specs.Fmt.{signed_decimal}
 use Rattle.serde_json.specs.Data.{Data, object, member, no_members}
 use Rattle.serde_json.specs.Written.{has_float, compact_text}
 use Rattle.serde_json.proofs.OnLiterals.{serde_json_on_literals}
-use Rattle.tl_tree.specs.Writing.{integer_data, integers_data, list_text, tree_text}
+use Rattle.tl_tree.specs.Writing.{integer_data, integers_data, list_text}
 use Rattle.tl_tree.specs.Trees.{TreeValue}
-use Rattle.tl_tree_locking.specs.Alone.{Outcome}
-use Rattle.tl_machine.specs.Outcomes.{IsAnswer}
+use Rattle.tl_instr.specs.Codes.{CodeValue}
+use Rattle.tl_machine.specs.Alone.{alone}
+use Rattle.tl_machine.specs.Outcomes.{IsAnswer, outcome_of}
 use Rattle.tl_tree.proofs.Texts.{integers_whole, record_written}
-use Rattle.tl_commands.specs.Alone.{answer_text, printed}
+use Rattle.tl_commands.specs.Alone.{answer_text, run_alone}
 
 -- the value of the first line
 abbrev pub answer_data : List ℤ → ℕ → Data
@@ -27,14 +28,9 @@ answer_written reply steps =
     ap (λ list. codes "{\"reply\":" ++ (list ++ (codes ",\"steps\":" ++ (decimal steps ++ codes "}")))) (record_written reply)
     ∙ regroup (codes "{\"reply\":") (list_text signed_decimal reply) (codes ",\"steps\":") (decimal steps) (codes "}")
 
-pub printed_from : (t now : TreeValue) (o : Outcome) (reply : List ℤ) (steps : ℕ) (first after out : List ℕ)
-    → IsAnswer o reply steps
-    → now ≡ record t { records = o.tree }
-    → first ≡ answer_text reply steps
-    → after ≡ tree_text now
-    → out ≡ first ++ 10 ∷ after ++ 10 ∷ []
-    → out ≡ printed t o
-printed_from t now o reply steps first after out answer now_is first_is after_is out_is =
-    let line : first ≡ answer_text o.reply (length o.actions) = first_is ∙ ap₂ answer_text answer.reply_is answer.steps_are in
-    let tree : after ≡ tree_text (record t { records = o.tree }) = after_is ∙ ap tree_text now_is in
-    out_is ∙ ap₂ (λ a b. a ++ 10 ∷ b ++ 10 ∷ []) line tree
+pub ran_from : (t now : TreeValue) (p code : CodeValue) (given args : List ℤ) (reply : List ℤ) (steps : ℕ) → p ≡ code → given ≡ args
+    → IsAnswer (outcome_of (alone p.instrs t.parents given t.records)) reply steps
+    → now ≡ record t { records = (outcome_of (alone p.instrs t.parents given t.records)).tree }
+    → record { reply = reply; steps = steps; tree = now } ≡ run_alone t (outcome_of (alone code.instrs t.parents args t.records))
+ran_from t now p code given args reply steps code_is args_are answer now_is =
+    rw (answer.reply_is, answer.steps_are, now_is) (ap₂ (λ instrs xs. run_alone t (outcome_of (alone instrs t.parents xs t.records))) (ap (λ x. x.instrs) code_is) args_are)

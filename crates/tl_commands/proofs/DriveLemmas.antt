@@ -1,6 +1,5 @@
 -- The parts of a run of the command `drive` together.
 use Rattle.std.proofs.Common.{◌≡◌, ℕ, List, map, ap, ◌∙◌, subst, Ok}
-use Rattle.serde_json.specs.Data.{Data}
 use Rattle.tl_tree.specs.Trees.{TreeValue}
 use Rattle.tl_tree.specs.Reading.{tree_of_text}
 use Rattle.tl_json.specs.declared.procedure.ProcedureText.{ProcedureText}
@@ -11,17 +10,21 @@ use Rattle.tl_core.specs.declared.moves.Move.{Move}
 use Rattle.tl_core.specs.declared.moves.Entry.{Entry}
 use Rattle.tl_commands.specs.declared.script.Script.{Script}
 use Rattle.tl_commands.specs.Script.{IsScript, beside, move_view, script_view, script_of_moves}
-use Rattle.tl_commands.specs.Scripted.{AreRegistered, core_with, tree_now, lines_text}
-use Rattle.tl_commands.specs.Trace.{trace_data}
+use Rattle.tl_commands.specs.Scripted.{AreRegistered, core_with}
 use Rattle.tl_procedures.specs.Names.{Named}
-use Rattle.tl_commands.specs.Drive.{IsConclusion, IsDriven, Prints}
+use Rattle.tl_sources.specs.Given.{GiveAll}
+use Rattle.tl_sources.specs.declared.given.Given.{Given}
+use Rattle.tl_commands.specs.Drive.{IsDriven}
 
-pub driven : (limit : ℕ) (t s : List ℕ) (more : List Named) (tree : TreeValue) (script : Script Move) (core after : CoreValue) (texts : List ProcedureText) (moves : List Move) (entries : List Entry)
-    → tree_of_text limit t ≡ Ok tree → IsScript (script_of_moves (beside more)) s (script_view move_view script) → texts ≡ script.procedures.items → AreRegistered (map procedure_form texts) more core.procedures
-    → core ≡ core_with tree core.procedures → moves ≡ script.tasks.items → Traced core moves entries → after ≡ after_moves core moves entries → IsDriven limit t s more entries after
-driven limit t s more tree script core after texts moves entries tree_is script_is texts_are registered core_is moves_are traced after_is =
+pub driven : (limit : ℕ) (t s : List ℕ) (sources : List Given) (more : List Named) (tree : TreeValue) (script : Script Move) (core after : CoreValue) (texts : List ProcedureText) (moves : List Move) (entries : List Entry)
+    → GiveAll sources more → tree_of_text limit t ≡ Ok tree → IsScript (script_of_moves (beside more)) s (script_view move_view script) → texts ≡ script.procedures.items → AreRegistered (map procedure_form texts) more core.procedures
+    → core ≡ core_with tree core.procedures → moves ≡ script.tasks.items → Traced core moves entries → after ≡ after_moves core moves entries
+    → IsDriven limit t s sources (record { entries = entries; core = after })
+driven limit t s sources more tree script core after texts moves entries given tree_is script_is texts_are registered core_is moves_are traced after_is =
     record {
       tree = tree;
+      more = more;
+      given = given;
       script = script_view move_view script;
       procedures = core.procedures;
       moves = moves;
@@ -32,13 +35,3 @@ driven limit t s more tree script core after texts moves entries tree_is script_
       traced = subst (λ v. Traced v moves entries) core_is traced;
       after = after_is ∙ ap (λ v. after_moves v moves entries) core_is;
     }
-
-pub printed : (limit : ℕ) (t s : List ℕ) (more : List Named) (out : List ℕ) (after : CoreValue) (entries shown : List Entry) → IsDriven limit t s more entries after → shown ≡ entries
-    → ((d : Data) × IsConclusion after d × (out ≡ lines_text (trace_data shown) d (tree_now after))) → Prints limit t s more out after
-printed limit t s more out after entries shown is same told = record {
-  entries = entries;
-  conclusion = told.0;
-  driven = is;
-  concluded = told.1;
-  same = told.2 ∙ ap (λ es. lines_text (trace_data es) told.0 (tree_now after)) same;
-}

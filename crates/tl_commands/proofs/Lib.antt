@@ -10,3 +10,4 @@ pub mod SinkLemmas
 pub mod ClosingLemmas
 pub mod ScriptCounts
 pub mod AuditLemmas
+pub mod BasisLemmas

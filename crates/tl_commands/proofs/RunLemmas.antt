@@ -1,9 +1,9 @@
 -- The parts of a run of the command `run` together.
-use Rattle.std.proofs.Common.{◌≡◌, ◌≢◌, ◌+◌, ◌<◌, ◌⊎◌, inl, inr, ℕ, List, [], ◌∷◌, ◌++◌, length, get_or, take, map, refl, sym, ap, ◌∙◌, subst, Ok, arith}
+use Rattle.std.proofs.Common.{◌≡◌, ◌+◌, ◌<◌, inl, inr, ℕ, List, [], ◌∷◌, ◌++◌, length, get_or, take, map, refl, sym, ap, ◌∙◌, subst, Ok}
 use Rattle.std.specs.Prelude.{Result, Vec}
 use Rattle.std.specs.declared.alloc.Global.{Global}
 use Rattle.std.specs.List.{All}
-use Rattle.std.proofs.lemmas.List.{append-nil, append_assoc, map_more, map_push, length-map}
+use Rattle.std.proofs.lemmas.List.{append-nil, append_assoc, map_more, map_push, length-map, take-map}
 use Rattle.std.proofs.lemmas.List.Elements.{All-head}
 use Rattle.serde_json.specs.Written.{compact_text}
 use Rattle.tl_tree.specs.Trees.{TreeValue}
@@ -14,6 +14,8 @@ use Rattle.tl_core.proofs.StoredCalls.{more_at}
 use Rattle.tl_json.specs.declared.procedure.ProcedureText.{ProcedureText}
 use Rattle.tl_json.specs.Procedures.{procedure_form}
 use Rattle.tl_procedures.specs.Names.{Named}
+use Rattle.tl_sources.specs.Given.{GiveAll}
+use Rattle.tl_sources.specs.declared.given.Given.{Given}
 use Rattle.tl_json.specs.Requests.{request_form}
 use Rattle.tl_commands.specs.declared.script.Script.{Script}
 use Rattle.tl_commands.specs.Script.{IsScript, beside, script_view, batch_form, script_of_run}
@@ -23,24 +25,23 @@ use Rattle.tl_workers.specs.Kept.{SessionValue, Gains, AnswersEach, asked_of, go
 use Rattle.tl_workers.specs.Matching.{Matches}
 use Rattle.tl_workers.specs.declared.refusal.Refusal.{Refusal}
 use Rattle.tl_workers.specs.declared.session.Did.{Did}
-use Rattle.tl_commands.specs.declared.fault.CliFault.{CliFault}
-use Rattle.tl_commands.specs.declared.fault.CliFault.TheVariants.{Unwritable, Tree, Register, Engine, NotScript}
-use Rattle.tl_commands.specs.Faults.{status_of}
-use Rattle.tl_commands.specs.Scripted.{AreRegistered, IsWrong}
-use Rattle.tl_commands.specs.Run.{IsReady, IsLeftOpen, IsFirstRunFault, AreAnswered, AnswersBatches, IsInEpoch, AreInEpochs, kept_of, batches_of, answers_of, batch_data, batch_lines}
+use Rattle.tl_commands.specs.Scripted.{AreRegistered}
+use Rattle.tl_commands.specs.Run.{IsReady, AreAnswered, AnswersBatches, IsInEpoch, AreInEpochs, kept_of, batches_of, answers_of, batch_data, batch_lines}
 
 -- ---- what is asked for
 
-forms : (batches : List (Vec Request Global)) → map (map request_form) (batches_of batches) ≡ map batch_form batches
+pub forms : (batches : List (Vec Request Global)) → map (map request_form) (batches_of batches) ≡ map batch_form batches
 forms [] = refl
 forms (b ∷ bs) = ap (λ xs. map request_form b.items ∷ xs) (forms bs)
 
-pub ready : (limit : ℕ) (t s : List ℕ) (more : List Named) (tree : TreeValue) (script : Script (Vec Request Global)) (core : CoreValue) (texts : List ProcedureText) (batches : List (Vec Request Global))
-    → tree_of_text limit t ≡ Ok tree → IsScript (script_of_run (beside more)) s (script_view batch_form script) → texts ≡ script.procedures.items → AreRegistered (map procedure_form texts) more core.procedures
-    → batches ≡ script.tasks.items → IsReady limit t s more (batches_of batches)
-ready limit t s more tree script core texts batches tree_is script_is texts_are registered batches_are =
+abbrev pub ready : (limit : ℕ) (t s : List ℕ) (sources : List Given) (more : List Named) (tree : TreeValue) (script : Script (Vec Request Global)) (core : CoreValue) (texts : List ProcedureText) (batches : List (Vec Request Global))
+    → GiveAll sources more → tree_of_text limit t ≡ Ok tree → IsScript (script_of_run (beside more)) s (script_view batch_form script) → texts ≡ script.procedures.items → AreRegistered (map procedure_form texts) more core.procedures
+    → batches ≡ script.tasks.items → IsReady limit t s sources (batches_of batches)
+ready limit t s sources more tree script core texts batches given tree_is script_is texts_are registered batches_are =
     record {
       tree = record { tree = tree; same = tree_is };
+      more = more;
+      given = given;
       script = script_view batch_form script;
       procedures = core.procedures;
       script_is = script_is;
@@ -93,6 +94,9 @@ pub answers_of_more : (all : List (Vec (Result Receipt Refusal) Global)) (i : �
 answers_of_more all i a inside is =
     map_more (λ (x : Vec (Result Receipt Refusal) Global). x.items) all i a inside ∙ ap (λ (x : Vec (Result Receipt Refusal) Global). answers_of (take i all) ++ x.items ∷ []) (sym is)
 
+pub taken_answers : (all : List (Vec (Result Receipt Refusal) Global)) (i : ℕ) → answers_of (take i all) ≡ take i (answers_of all)
+taken_answers all i = sym (take-map (λ (x : Vec (Result Receipt Refusal) Global). x.items) i all)
+
 pub answers_pushed : (all : List (Vec (Result Receipt Refusal) Global)) (a : Vec (Result Receipt Refusal) Global) → answers_of (all ++ a ∷ []) ≡ answers_of all ++ a.items ∷ []
 answers_pushed all a = map_push (λ (x : Vec (Result Receipt Refusal) Global). x.items) all a
 
@@ -131,29 +135,3 @@ lines_more (a ∷ all) answers =
     ap (λ l. first ++ 10 ∷ l) (lines_more all answers)
     ∙ sym (append_assoc first ((10 ∷ batch_lines all) ++ last) (10 ∷ []))
     ∙ ap (λ l. l ++ 10 ∷ []) (sym (append_assoc first (10 ∷ batch_lines all) last))
-
--- ---- a fault
-
-left_open : (batches : List (List Request)) (e : CliFault) → IsLeftOpen batches e → e ≢ Unwritable
-left_open batches e (inl h) is = cc
-left_open batches e (inr (inl h)) is = let other : e ≡ Engine h.1 = h.2 in cc
-left_open batches e (inr (inr h)) is = cc
-
-wrong_file : (limit : ℕ) (t s : List ℕ) (more : List Named) (e : CliFault) → IsWrong limit (script_of_run (beside more)) t s more e → e ≢ Unwritable
-wrong_file limit t s more e (inl h) is = let other : e ≡ Tree h.0 = h.1 in cc
-wrong_file limit t s more e (inr (inl h)) is = let other : e ≡ NotScript = h.0 in cc
-wrong_file limit t s more e (inr (inr h)) is = let other : e ≡ Register h.1 = h.2 in cc
-
-either : (limit : ℕ) (t s : List ℕ) (more : List Named) (e : CliFault) → IsWrong limit (script_of_run (beside more)) t s more e ⊎ ((batches : List (List Request)) × IsReady limit t s more batches × IsLeftOpen batches e) → e ≢ Unwritable
-either limit t s more e (inl h) = wrong_file limit t s more e h
-either limit t s more e (inr h) = left_open h.0 e h.2
-
--- refused memory isn't `Unwritable`
-pub memory_fault : (e : CliFault) → status_of e ≡ 4 → e ≢ Unwritable
-memory_fault e four is = let h : 3 ≡ 4 = ap status_of (sym is) ∙ four in absurd (omega (arith, h))
-
--- neither is any fault of a run
-pub run_fault : (limit : ℕ) (t s : List ℕ) (more : List Named) (e : CliFault) → IsFirstRunFault limit t s more e → e ≢ Unwritable
-run_fault limit t s more e fault is =
-    let other : status_of e ≢ 4 = λ four. memory_fault e four is in
-    either limit t s more e (fault other) is

@@ -15,15 +15,25 @@ use Rattle.tl_machine.specs.Alone.{alone}
 use Rattle.tl_tree_locking.specs.Alone.{Outcome}
 use Rattle.tl_machine.specs.Outcomes.{outcome_of}
 use Rattle.tl_commands.specs.declared.fault.CliFault.{CliFault}
-use Rattle.tl_commands.specs.declared.fault.CliFault.TheVariants.{Unreadable, Unwritable, NoPort, NotUtf8, Asm, Tree, Code, Verify, Source, Register, Core, Trail, Audit, Chain, Engine, NotClosed, NotScript, NotArgs, WrongArgs, Memory}
+use Rattle.tl_commands.specs.declared.fault.CliFault.TheVariants.{Unreadable, Unwritable, NoPort, NotUtf8, Asm, Tree, Code, Verify, Source, Sources, Register, Core, Trail, Audit, Chain, Engine, NotClosed, NotScript, NotArgs, WrongArgs, Memory}
 
 -- the first line: the reply, and the number of instructions executed
 abbrev pub answer_text : List ℤ → ℕ → List ℕ
 answer_text reply steps = codes "{\"reply\":" ++ list_text signed_decimal reply ++ codes ",\"steps\":" ++ decimal steps ++ codes "}"
 
--- two lines: the answer, and the tree after the call
-abbrev pub printed : TreeValue → Outcome → List ℕ
-printed t o = answer_text o.reply (length o.actions) ++ 10 ∷ tree_text (record t { records = o.tree }) ++ 10 ∷ []
+-- a call that ran alone: its reply, the number of instructions executed, and the tree after it
+pub record AloneValue : Type 0 where
+  pub reply : List ℤ
+  pub steps : ℕ
+  pub tree : TreeValue
+
+-- this outcome of a call on the tree
+abbrev pub run_alone : TreeValue → Outcome → AloneValue
+run_alone t o = record { reply = o.reply; steps = length o.actions; tree = record t { records = o.tree } }
+
+-- two lines: the answer, and the tree
+abbrev pub printed : AloneValue → List ℕ
+printed r = answer_text r.reply r.steps ++ 10 ∷ tree_text r.tree ++ 10 ∷ []
 
 -- the arguments in a text
 abbrev pub args_of_text : List ℕ → Option (List ℤ)
@@ -38,11 +48,11 @@ pub record AloneInputs (limit : ℕ) (tree_bytes : List ℕ) (source : SourceFil
   pub code_is : IsProcedureOf source name code
   pub args_are : args_of_text args_text ≡ Some args
 
--- The output is what the procedure does alone.
-pub record Prints (limit : ℕ) (tree_bytes : List ℕ) (source : SourceFile) (name : Option (List ℕ)) (args_text out : List ℕ) : Type 0 where
+-- This is what the procedure does alone.
+pub record IsRunAlone (limit : ℕ) (tree_bytes : List ℕ) (source : SourceFile) (name : Option (List ℕ)) (args_text : List ℕ) (r : AloneValue) : Type 0 where
   pub inputs : AloneInputs limit tree_bytes source name args_text
   pub arity : length inputs.args ≡ inputs.code.arity
-  pub same : out ≡ printed inputs.tree (outcome_of (alone inputs.code.instrs inputs.tree.parents inputs.args inputs.tree.records))
+  pub same : r ≡ run_alone inputs.tree (outcome_of (alone inputs.code.instrs inputs.tree.parents inputs.args inputs.tree.records))
 
 -- the bytes of a file denote a tree
 pub record IsTreeFile (limit : ℕ) (bytes : List ℕ) : Type 0 where
@@ -67,6 +77,7 @@ IsFirstAloneFault limit t source name a NotUtf8 = ⊥
 IsFirstAloneFault limit t source name a (Asm f) = ⊥
 IsFirstAloneFault limit t source name a (Code f) = ⊥
 IsFirstAloneFault limit t source name a (Verify f) = ⊥
+IsFirstAloneFault limit t source name a (Sources r) = ⊥
 IsFirstAloneFault limit t source name a (Register f) = ⊥
 IsFirstAloneFault limit t source name a (Core f) = ⊥
 IsFirstAloneFault limit t source name a (Trail f) = ⊥

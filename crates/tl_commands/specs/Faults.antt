@@ -21,7 +21,7 @@ use Rattle.tl_table.specs.declared.fault.TableFault.TheVariants as table
 use Rattle.tl_workers.specs.Refusals.{numbers_of as engine_numbers_of}
 use Rattle.tl_workers.specs.declared.refusal.Refusal.TheVariants as refusal
 use Rattle.tl_commands.specs.declared.fault.CliFault.{CliFault}
-use Rattle.tl_commands.specs.declared.fault.CliFault.TheVariants.{Unreadable, Unwritable, NoPort, NotUtf8, Asm, Tree, Code, Verify, Source, Register, Core, Trail, Audit, Chain, Engine, NotClosed, NotScript, NotArgs, WrongArgs, Memory}
+use Rattle.tl_commands.specs.declared.fault.CliFault.TheVariants.{Unreadable, Unwritable, NoPort, NotUtf8, Asm, Tree, Code, Verify, Source, Sources, Register, Core, Trail, Audit, Chain, Engine, NotClosed, NotScript, NotArgs, WrongArgs, Memory}
 
 abbrev pub numbers_of : CliFault → List ℕ
 numbers_of Unreadable = 31 ∷ []
@@ -33,6 +33,7 @@ numbers_of (Tree f) = tree_numbers_of f
 numbers_of (Code f) = code_numbers_of f
 numbers_of (Verify f) = verify_numbers_of f
 numbers_of (Source f) = source_numbers_of f
+numbers_of (Sources r) = source_numbers_of r.fault
 numbers_of (Register f) = register_numbers_of f
 numbers_of (Core f) = core_numbers_of f
 numbers_of (Trail f) = trail_numbers_of f
@@ -55,6 +56,7 @@ status_of (Tree tree.Memory) = 4
 status_of (Code code.Memory) = 4
 status_of (Verify verify.Memory) = 4
 status_of (Source f) = if is_source_memory f then 4 else 1
+status_of (Sources r) = if is_source_memory r.fault then 4 else 1
 status_of (Register f) = if is_memory f then 4 else 1
 status_of (Core core.Memory) = 4
 status_of (Trail trail.Memory) = 4

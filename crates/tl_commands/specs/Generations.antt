@@ -1,7 +1,9 @@
 -- What the command `serve` does when one engine follows another.
-use Rattle.std.specs.Prelude.{◌≡◌, ◌≢◌, ℕ, List, [], Ok}
+use Rattle.std.specs.Prelude.{◌≡◌, ◌≢◌, ℕ, List, [], codes, Ok}
+use Rattle.serde_json.specs.Data.{Data, object, member, no_members}
 use Rattle.tl_tree.specs.Trees.{TreeValue}
 use Rattle.tl_tree.specs.Reading.{tree_of_text}
+use Rattle.tl_json.specs.Lists.{natural}
 use Rattle.tl_table.specs.Epochs.{EpochValue}
 use Rattle.tl_generations.specs.Generations.{LegacyValue, SuccessionValue, TakesUpFirst}
 use Rattle.tl_commands.specs.declared.fault.CliFault.{CliFault}
@@ -22,3 +24,7 @@ pub record BeginsWithFile (limit : ℕ) (file : List ℕ) (s : SuccessionValue) 
 -- the epochs didn't start from the last legacy; or lack of memory
 abbrev pub IsTurnFault : SuccessionValue → List EpochValue → CliFault → Type 0
 IsTurnFault s es e = status_of e ≢ 4 → (e ≡ NotClosed) × ¬ TakesUpFirst s.last es
+
+-- how many engines there were
+abbrev pub generations_data : ℕ → Data
+generations_data n = object (member (codes "generations") (natural n) no_members)

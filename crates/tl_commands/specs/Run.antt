@@ -1,5 +1,5 @@
 -- The output of the command `run`, and its faults.
-use Rattle.std.specs.Prelude.{◌≡◌, ◌≢◌, ◌⊎◌, ◌<◌, ℕ, ◌==◌, Bool, List, [], ◌∷◌, ◌++◌, length, map, slice_get, codes, Result, Ok, Err, Vec, Option, Some, if◌then◌else◌}
+use Rattle.std.specs.Prelude.{◌≡◌, ◌≢◌, ◌⊎◌, ◌<◌, ℕ, ◌==◌, Bool, List, [], ◌∷◌, ◌++◌, length, map, slice_get, codes, Result, Ok, Err, Vec, Some, if◌then◌else◌}
 use Rattle.std.specs.List.{All}
 use Rattle.std.specs.declared.alloc.Global.{Global}
 use Rattle.serde_json.specs.Data.{Data, Members, object, member, no_members}
@@ -9,7 +9,11 @@ use Rattle.tl_procedures.specs.Names.{Named}
 use Rattle.tl_procedures.specs.declared.request.Request.{Request}
 use Rattle.tl_json.specs.Lists.{list_data, natural}
 use Rattle.tl_json.specs.Requests.{request_form}
-use Rattle.tl_table.specs.Epochs.{EpochValue}
+use Rattle.tl_sources.specs.Given.{GiveAll}
+use Rattle.tl_sources.specs.declared.given.Given.{Given}
+use Rattle.tl_core.specs.Cores.{CoreValue}
+use Rattle.tl_generations.specs.Generations.{LegacyValue, TakesUpFirst}
+use Rattle.tl_table.specs.Epochs.{EpochValue, seen}
 use Rattle.tl_table.specs.Tables.{IsChain}
 use Rattle.tl_table.specs.declared.fault.TableFault.TheVariants.{TooManySessions}
 use Rattle.tl_table.specs.declared.receipt.Receipt.{Receipt}
@@ -25,8 +29,7 @@ use Rattle.tl_commands.specs.Alone.{IsTreeFile}
 use Rattle.tl_commands.specs.Closing.{IsClosing}
 use Rattle.tl_commands.specs.Faults.{status_of}
 use Rattle.tl_commands.specs.Script.{BatchesValue, IsScript, beside, script_of_run, has_epochs}
-use Rattle.tl_commands.specs.Scripted.{AreRegistered, IsWrong}
-use Rattle.tl_commands.specs.Sinks.{FilesTrails}
+use Rattle.tl_commands.specs.Scripted.{AreRegistered, core_with, IsWrongInput}
 use Rattle.tl_commands.specs.Trace.{error_data}
 
 -- ---- the first lines
@@ -57,9 +60,11 @@ batches_of batches = map (λ b. b.items) batches
 abbrev pub answers_of : List (Vec (Result Receipt Refusal) Global) → List (List (Result Receipt Refusal))
 answers_of answers = map (λ a. a.items) answers
 
--- The tree's file has a tree, the script's procedures and `more` can be registered, and `batches` are the script's calls.
-pub record IsReady (limit : ℕ) (tree_bytes script_bytes : List ℕ) (more : List Named) (batches : List (List Request)) : Type 0 where
+-- The tree's file has a tree, the procedures of the script and of these files can be registered, and `batches` are the script's calls.
+pub record IsReady (limit : ℕ) (tree_bytes script_bytes : List ℕ) (sources : List Given) (batches : List (List Request)) : Type 0 where
   pub tree : IsTreeFile limit tree_bytes
+  pub more : List Named
+  pub given : GiveAll sources more
   pub script : BatchesValue
   pub procedures : List Named
   pub script_is : IsScript (script_of_run (beside more)) script_bytes script
@@ -92,34 +97,40 @@ pub record AreAnswered (batches : List (List Request)) (answers : List (List (Re
   pub each : AnswersBatches batches answers
   pub kept : session.kept ≡ kept_of batches answers
 
--- The script's calls were requested, one batch in each epoch, and the epochs of the closed table match the session's entries.
-pub record IsRun (limit : ℕ) (tree_bytes script_bytes : List ℕ) (more : List Named) (answers : List (List (Result Receipt Refusal))) (es : List EpochValue) : Type 0 where
+-- what a script of calls came to: the answers to each batch, the epochs of the closed table, and whether the script names epochs
+pub record RunValue : Type 0 where
+  pub answers : List (List (Result Receipt Refusal))
+  pub epochs : List EpochValue
+  pub has_epochs : Bool
+
+-- what the calls of a core begin with
+abbrev pub begun_by : CoreValue → LegacyValue
+begun_by v = record { parents = v.parents; records = v.opening; procedures = v.procedures }
+
+-- The first epoch opens with this tree, and each epoch has these procedures and no others.
+pub record RunsOn (l : LegacyValue) (es : List EpochValue) : Type 0 where
+  pub first : TakesUpFirst l es
+  pub procedures : All (λ e. (seen e).procedures ≡ l.procedures) es
+
+-- The script's calls were requested, one batch in each epoch, and the epochs of the closed table match the session's entries. They ran on the
+-- file's tree and on the procedures of the script and of these files.
+pub record IsRun (limit : ℕ) (tree_bytes script_bytes : List ℕ) (sources : List Given) (r : RunValue) : Type 0 where
   pub batches : List (List Request)
   pub session : SessionValue
-  pub ready : IsReady limit tree_bytes script_bytes more batches
-  pub answered : AreAnswered batches answers session
-  pub as_many : length es ≡ length batches
-  pub in_epochs : AreInEpochs answers
-  pub chain : IsChain es
-  pub matches : Matches es session
+  pub ready : IsReady limit tree_bytes script_bytes sources batches
+  pub answered : AreAnswered batches r.answers session
+  pub as_many : length r.epochs ≡ length batches
+  pub in_epochs : AreInEpochs r.answers
+  pub chain : IsChain r.epochs
+  pub matches : Matches r.epochs session
+  pub based : RunsOn (begun_by (core_with ready.tree.tree ready.procedures)) r.epochs
+  pub names_epochs : r.has_epochs ≡ has_epochs (beside ready.more) script_bytes
 
 -- The output consists of the answers to each batch, the orders of the epochs' calls, and the final tree.
-pub record PrintsRun (with_epochs : Bool) (answers : List (List (Result Receipt Refusal))) (es : List EpochValue) (out : List ℕ) : Type 0 where
+pub record PrintsRun (r : RunValue) (out : List ℕ) : Type 0 where
   pub closing : List ℕ
-  pub closes : IsClosing with_epochs es closing
-  pub same : out ≡ batch_lines answers ++ closing
-
-pub record Prints (limit : ℕ) (tree_bytes script_bytes : List ℕ) (more : List Named) (out : List ℕ) (es : List EpochValue) : Type 0 where
-  pub answers : List (List (Result Receipt Refusal))
-  pub run : IsRun limit tree_bytes script_bytes more answers es
-  pub printed : PrintsRun (has_epochs (beside more) script_bytes) answers es out
-
-abbrev pub Runs : ℕ → List ℕ → List ℕ → List Named → List ℕ → Type 0
-Runs limit t s more out = (es : List EpochValue) × Prints limit t s more out es
-
--- The same, and the file has the trails of these epochs, which are clean.
-abbrev pub RunsToTrail : ℕ → List ℕ → List ℕ → List Named → List ℕ → Option (List ℕ) → Option (List ℕ) → Type 0
-RunsToTrail limit t s more out old new = (es : List EpochValue) × Prints limit t s more out es × FilesTrails es old new
+  pub closes : IsClosing r.has_epochs r.epochs closing
+  pub same : out ≡ batch_lines r.answers ++ closing
 
 -- ---- faults
 
@@ -132,7 +143,7 @@ abbrev pub IsLeftOpen : List (List Request) → CliFault → Type 0
 IsLeftOpen batches e = (e ≡ Engine (refusal.Table TooManySessions)) ⊎ IsBrokenOff batches e
 
 -- the first fault of the inputs, or otherwise why the engine doesn't close; or lack of memory
-abbrev pub IsFirstRunFault : ℕ → List ℕ → List ℕ → List Named → CliFault → Type 0
-IsFirstRunFault limit t s more e = status_of e ≢ 4 →
-    IsWrong limit (script_of_run (beside more)) t s more e
-    ⊎ ((batches : List (List Request)) × IsReady limit t s more batches × IsLeftOpen batches e)
+abbrev pub IsFirstRunFault : ℕ → List ℕ → List ℕ → List Given → CliFault → Type 0
+IsFirstRunFault limit t s sources e = status_of e ≢ 4 →
+    IsWrongInput limit script_of_run t s sources e
+    ⊎ ((batches : List (List Request)) × IsReady limit t s sources batches × IsLeftOpen batches e)

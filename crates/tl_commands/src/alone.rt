@@ -4,16 +4,18 @@ ghost use Rattle.std.specs.Prelude.{◌≡◌, IfOk, IfErr, option_map, string_b
 ghost use Rattle.serde_json.specs.Data.{object, member, no_members};
 ghost use Rattle.serde_json.specs.View.{view};
 ghost use Rattle.tl_tree.specs.Writing.{integer_data, integers_data, tree_text};
-ghost use Rattle.tl_commands.specs.Alone.{answer_text, args_of_text, Prints, IsFirstAloneFault};
+ghost use Rattle.tl_commands.specs.Alone.{answer_text, args_of_text, printed, IsRunAlone, IsFirstAloneFault};
+ghost use Rattle.tl_commands.specs.Faults.{status_of};
 
 use crate::fault::CliFault;
 use crate::inputs::tree_of_file;
 use serde_json::{Value, json};
 use std::alloc::{AllocError, Global};
+use std::marker::Model;
 use std::sync::Arc;
 use tl_machine::{Answer, alone};
 use tl_sources::{Source, procedure_of};
-use tl_tree::{integers_from_value, integers_to_value, write_tree};
+use tl_tree::{Tree, integers_from_value, integers_to_value, write_tree};
 
 // The arguments in a text: a JSON list of signed 64-bit integers.
 fn args_of(alloc: Global, text: &str) -> Result<Vec<i64>, CliFault>
@@ -50,9 +52,43 @@ fn answer_line(alloc: Global, answer: &Answer) -> Result<String, AllocError>
     Ok(value.to_string(alloc)?)
 }
 
-/// Runs a procedure alone on a tree, and returns the lines to print: first the reply and the number of instructions done,
-/// then the resulting tree. Takes the bytes of the tree's file, the procedure's file and its name there, and the arguments as
-/// text.
+/// A call that ran alone: its reply, the number of instructions done, and the tree that it left.
+#[derive(Debug, Drop)]
+pub struct RanAlone {
+    answer: Answer,
+    tree: Tree,
+}
+
+impl Model for RanAlone {
+    ghost use Rattle.tl_commands.specs.Alone.{AloneValue};
+
+    ghost Value = { AloneValue };
+
+    ghost view = { λ r. record { reply = r.answer.reply; steps = r.answer.steps; tree = r.tree } };
+}
+
+impl RanAlone {
+    /// The tree that the call left.
+    pub fn tree(&self) -> &Tree
+        ensures { result.now ≡ self.now.tree }
+    {
+        &self.tree
+    }
+
+    /// The lines to print: the reply and the number of instructions done, and the tree. 190 or 990 if memory is refused.
+    pub fn lines(&self, alloc: Global) -> Result<String, CliFault>
+        ensures printed { IfOk result (λ s. string_bytes s ≡ printed self.now) }
+        ensures err { IfErr result (λ e. status_of e ≡ 4) }
+    {
+        let mut text = answer_line(alloc, &self.answer)?;
+        let tree = write_tree(alloc, &self.tree).map_err(CliFault::Tree)?;
+        append_lines(&mut text, &tree)?;
+        Ok(text)
+    }
+}
+
+/// Runs a procedure alone on a tree. Takes the bytes of the tree's file, the procedure's file and its name there, and the
+/// arguments as text.
 ///
 /// The first fault, in this order: 106 (also if the tree isn't UTF-8), 101 to 105, where the tree may have `limit` nodes; that of the procedure's file, as from
 /// `procedure_of`; 732; 501. If memory was refused, 190, 290, 490 or 990.
@@ -63,8 +99,8 @@ pub fn alone_cmd(
     name: Option<&str>,
     args: &str,
     limit: u16,
-) -> Result<String, CliFault>
-    ensures printed { IfOk result (λ s. Prints limit tree.now source.entry (option_map (λ n. n.now) name.entry) args.now (string_bytes s)) }
+) -> Result<RanAlone, CliFault>
+    ensures ran { IfOk result (IsRunAlone limit tree.now source.entry (option_map (λ n. n.now) name.entry) args.now) }
     ensures fault { IfErr result (IsFirstAloneFault limit tree.now source.entry (option_map (λ n. n.now) name.entry) args.now) }
 {
     let mut tree = match tree_of_file(alloc, tree, limit) {
@@ -82,17 +118,7 @@ pub fn alone_cmd(
     let Ok(answer) = alone(&procedure, &args, &mut tree) else {
         return Err(CliFault::WrongArgs);
     };
-    let Ok(mut text) = answer_line(alloc, &answer) else {
-        return Err(CliFault::Memory);
-    };
-    let after = match write_tree(alloc, &tree) {
-        Ok(after) => after,
-        Err(fault) => return Err(CliFault::Tree(fault)),
-    };
-    match append_lines(&mut text, &after) {
-        Ok(()) => Ok(text),
-        Err(_) => Err(CliFault::Memory),
-    }
+    Ok(RanAlone { answer, tree })
 }
 
 // Ends the first line, and adds a second.

@@ -7,7 +7,7 @@ ghost use Rattle.tl_serial_order.specs.Order.{OrderValue};
 ghost use Rattle.tl_json.specs.Lists.{orders_data};
 ghost use Rattle.tl_table.specs.Chains.{calls_in};
 ghost use Rattle.tl_table.specs.Tables.{IsChain};
-ghost use Rattle.tl_commands.specs.Closing.{AreOrders, IsClosing, orders_form};
+ghost use Rattle.tl_commands.specs.Closing.{AreOrders, IsClosing, orders_form, tree_after};
 ghost use Rattle.tl_commands.specs.Faults.{status_of};
 
 use crate::fault::CliFault;
@@ -18,6 +18,7 @@ use tl_core::CoreFault;
 use tl_json::{calls_to_value, order_to_value, orders_to_value};
 use tl_serial_order::Order;
 use tl_table::{Closed, conclude_all};
+use tl_tree::Tree;
 
 /// `{"orders":[..]}`, with the order of each epoch.
 pub fn all_orders_to_value(alloc: Global, orders: &[Order]) -> Result<Value, AllocError>
@@ -40,6 +41,18 @@ fn closing_value(alloc: Global, orders: &[Order], has_epochs: bool) -> Result<Va
     }
 }
 
+/// The tree that the calls of all epochs left.
+pub fn last_tree(chain: &[Closed]) -> &Tree
+    requires { IsChain chain.now }
+    ensures { result.now ≡ tree_after chain.now }
+{
+    let Some(last) = chain.last() else {
+        // There is at least one epoch.
+        unreachable!()
+    };
+    last.core().tree()
+}
+
 /// The order of the calls of each epoch, or of the only one, and the tree that they left.
 ///
 /// All calls, run alone one after another along these orders joined, from the tree before any call, leave that tree, and each gives
@@ -53,9 +66,5 @@ pub fn closing_lines(alloc: Global, chain: &[Closed], has_epochs: bool) -> Resul
         return Err(CliFault::Core(CoreFault::Memory));
     };
     let value = closing_value(alloc, &orders, has_epochs)?;
-    let Some(last) = chain.last() else {
-        // There is at least one epoch.
-        unreachable!()
-    };
-    two_lines(alloc, &value, last.core().tree())
+    two_lines(alloc, &value, last_tree(chain))
 }

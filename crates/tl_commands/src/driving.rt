@@ -1,24 +1,26 @@
 // The command `drive`.
 
-ghost use Rattle.std.specs.Prelude.{◌≡◌, string_bytes, IfOk, IfErr};
-ghost use Rattle.serde_json.specs.Data.{Data};
+ghost use Rattle.std.specs.Prelude.{◌≡◌, ◌∷◌, ◌++◌, [], string_bytes, IfOk, IfErr};
 ghost use Rattle.serde_json.specs.View.{view};
 ghost use Rattle.tl_commands.specs.Faults.{status_of};
-ghost use Rattle.tl_commands.specs.Scripted.{tree_now, lines_text};
-ghost use Rattle.tl_commands.specs.Trace.{trace_data};
-ghost use Rattle.tl_commands.specs.Drive.{IsConclusion, IsDriven, Drives, DrivesToTrail, IsFirstDriveFault};
+ghost use Rattle.tl_record.specs.Recording.{trail_value};
+ghost use Rattle.tl_trail.specs.Writing.{trail_text};
+ghost use Rattle.tl_commands.specs.Scripted.{tree_now};
+ghost use Rattle.tl_commands.specs.Drive.{IsConclusion, IsDriven, PrintsDriven, IsFirstDriveFault};
 
 use crate::fault::CliFault;
-use crate::inputs::{Inputs, core_of, tree_of_file};
+use crate::inputs::{Inputs, core_of, procedures_of_files, tree_of_file};
 use crate::outputs::{three_lines, trail_file};
 use crate::script::read_moves;
 use crate::trace::{trace_to_value, unfinished_to_value};
 use serde_json::Value;
 use std::alloc::Global;
+use std::marker::Model;
 use tl_core::{Core, CoreFault, Entry};
 use tl_json::order_to_value;
 use tl_serial::conclude;
 use tl_serial_order::SerialFault;
+use tl_tree::Tree;
 
 // The value of the second line.
 fn conclusion(alloc: Global, core: &Core) -> Result<Value, CliFault>
@@ -32,34 +34,65 @@ fn conclusion(alloc: Global, core: &Core) -> Result<Value, CliFault>
     }
 }
 
-// The three lines.
-fn lines(alloc: Global, core: &Core, trace: &[Entry]) -> Result<String, CliFault>
-    ensures ok { IfOk result (λ s. (d : Data) × IsConclusion core.now.seen d × (string_bytes s ≡ lines_text (trace_data trace.now) d (tree_now core.now.seen))) }
-    ensures err { IfErr result (λ e. status_of e ≡ 4) }
-{
-    let trace = trace_to_value(alloc, trace)?;
-    let conclusion = conclusion(alloc, core)?;
-    three_lines(alloc, &trace, &conclusion, core.tree())
-}
-
-// The result of a script: the result of each move, and the core after them.
-#[derive(Drop)]
+/// What a script of moves came to: the result of each move, and the core after them.
+#[derive(Debug, Drop)]
 pub struct Driven {
     trace: Vec<Entry>,
     core: Core,
 }
 
-// Carries out a script on its inputs.
-fn drive_script(alloc: Global, inputs: Inputs<'_>) -> Result<Driven, CliFault>
-    ensures ok { IfOk result (λ d. IsDriven inputs.entry.limit inputs.entry.tree.now inputs.entry.script.now inputs.entry.procedures.items d.trace.items d.core.seen) }
-    ensures fault { IfErr result (λ e. IsFirstDriveFault inputs.entry.limit inputs.entry.tree.now inputs.entry.script.now inputs.entry.procedures.items e) }
+impl Model for Driven {
+    ghost use Rattle.tl_commands.specs.Drive.{DrivenValue};
+
+    ghost Value = { DrivenValue };
+
+    ghost view = { λ d. record { entries = d.trace.items; core = d.core.seen } };
+}
+
+impl Driven {
+    /// The tree after the moves.
+    pub fn tree(&self) -> &Tree
+        ensures { result.now ≡ tree_now self.now.core }
+    {
+        self.core.tree()
+    }
+
+    /// The lines to print: the result of each move; the order of the calls, or 651 and the least unfinished call; and the
+    /// tree. 190, 690 or 990 if memory is refused.
+    pub fn lines(&self, alloc: Global) -> Result<String, CliFault>
+        ensures printed { IfOk result (λ s. PrintsDriven self.now (string_bytes s)) }
+        ensures err { IfErr result (λ e. status_of e ≡ 4) }
+    {
+        let trace = trace_to_value(alloc, &self.trace)?;
+        let conclusion = conclusion(alloc, &self.core)?;
+        three_lines(alloc, &trace, &conclusion, self.core.tree())
+    }
+
+    /// The text of a file: the trail of the calls, and a line feed. 790 or 990 if memory is refused.
+    pub fn trail_file(&self, alloc: Global) -> Result<String, CliFault>
+        ensures ok { IfOk result (λ s. string_bytes s ≡ trail_text (trail_value self.now.core) ++ 10 ∷ []) }
+        ensures err { IfErr result (λ e. status_of e ≡ 4) }
+    {
+        trail_file(alloc, &self.core)
+    }
+}
+
+/// Carries out a script on a tree, with its own procedures and those of other files.
+///
+/// The first fault, in this order: those of the files of procedures, as from `all_given`; 106 (also if the tree isn't UTF-8), 101 to 105, where the tree may have `limit` nodes; 731; then for each procedure of the script the
+/// assembler's 251 to 254, the verifier's 301 to 307 and 401 to 409, and 612, 611, 613; then for each other procedure 612, 611, 613. If
+/// memory was refused, 190, 290, 490, 690 or 990.
+pub fn drive_cmd(alloc: Global, inputs: Inputs<'_>) -> Result<Driven, CliFault>
+    ensures driven { IfOk result (IsDriven inputs.entry.limit inputs.entry.tree.now inputs.entry.script.now inputs.entry.sources.now) }
+    ensures fault { IfErr result (IsFirstDriveFault inputs.entry.limit inputs.entry.tree.now inputs.entry.script.now inputs.entry.sources.now) }
 {
     let Inputs {
         tree,
         script,
-        procedures,
+        sources,
         limit,
     } = inputs;
+    let procedures = procedures_of_files(alloc, sources)?;
     let tree = match tree_of_file(alloc, tree, limit) {
         Ok(tree) => tree,
         Err(fault) => return Err(CliFault::Tree(fault)),
@@ -70,29 +103,4 @@ fn drive_script(alloc: Global, inputs: Inputs<'_>) -> Result<Driven, CliFault>
         Ok(trace) => Ok(Driven { trace, core }),
         Err(fault) => Err(CliFault::Core(fault)),
     }
-}
-
-/// Carries out a script on a tree, and returns the lines to print: the result of each move; the order of the calls, or 651
-/// and the least unfinished call; and the resulting tree.
-///
-/// The first fault, in this order: 106 (also if the tree isn't UTF-8), 101 to 105, where the tree may have `limit` nodes; 731; then for each procedure of the script the
-/// assembler's 251 to 254, the verifier's 301 to 307 and 401 to 409, and 612, 611, 613; then for each other procedure 612, 611, 613. If
-/// memory was refused, 190, 290, 490, 690 or 990.
-pub fn drive_cmd(alloc: Global, inputs: Inputs<'_>) -> Result<String, CliFault>
-    ensures printed { IfOk result (λ s. Drives inputs.entry.limit inputs.entry.tree.now inputs.entry.script.now inputs.entry.procedures.items (string_bytes s)) }
-    ensures fault { IfErr result (λ e. IsFirstDriveFault inputs.entry.limit inputs.entry.tree.now inputs.entry.script.now inputs.entry.procedures.items e) }
-{
-    let driven = drive_script(alloc, inputs)?;
-    lines(alloc, &driven.core, &driven.trace)
-}
-
-/// The same, and the text of a file: the trail of the calls, and a line feed. If memory was refused, also 790.
-pub fn drive_with_trail_cmd(alloc: Global, inputs: Inputs<'_>) -> Result<(String, String), CliFault>
-    ensures printed { IfOk result (λ r. DrivesToTrail inputs.entry.limit inputs.entry.tree.now inputs.entry.script.now inputs.entry.procedures.items (string_bytes r.0) (string_bytes r.1)) }
-    ensures fault { IfErr result (λ e. IsFirstDriveFault inputs.entry.limit inputs.entry.tree.now inputs.entry.script.now inputs.entry.procedures.items e) }
-{
-    let driven = drive_script(alloc, inputs)?;
-    let text = lines(alloc, &driven.core, &driven.trace)?;
-    let trail = trail_file(alloc, &driven.core)?;
-    Ok((text, trail))
 }

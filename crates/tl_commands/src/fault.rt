@@ -12,7 +12,7 @@ use tl_audit::{AuditFault, ChainFault};
 use tl_core::CoreFault;
 use tl_instr::CodeFault;
 use tl_json::RegisterFault;
-use tl_sources::SourceFault;
+use tl_sources::{RefusedFile, SourceFault};
 use tl_table::TableFault;
 use tl_trail::TrailFault;
 use tl_tree::TreeFault;
@@ -49,6 +49,9 @@ pub enum CliFault {
     /// 255, 270 to 297, 299, 251 to 254, 201 to 206, 290, 301 to 307, 401 to 409, 490: a file of procedures.
     #[error("{0}")]
     Source(SourceFault),
+    /// The same of one of several files.
+    #[error("{0}")]
+    Sources(RefusedFile),
     /// 251 to 254, 290, 301 to 307, 401 to 409, 490, 611 to 613, 690: a procedure that is registered.
     #[error("a procedure: {0}")]
     Register(RegisterFault),
@@ -100,6 +103,7 @@ impl CliFault {
             CliFault::Code(fault) => return as_many(&fault.numbers()),
             CliFault::Verify(fault) => return as_many(&fault.numbers()),
             CliFault::Source(fault) => return as_many(&fault.numbers()),
+            CliFault::Sources(refused) => return as_many(&refused.fault.numbers()),
             CliFault::Register(fault) => return as_many(&fault.numbers()),
             CliFault::Core(fault) => return as_many(&fault.numbers()),
             CliFault::Trail(fault) => return as_many(&fault.numbers()),
@@ -122,6 +126,7 @@ impl CliFault {
         match self {
             CliFault::Unreadable | CliFault::Unwritable | CliFault::NoPort => 3,
             CliFault::Source(fault) if fault.is_memory() => 4,
+            CliFault::Sources(refused) if refused.fault.is_memory() => 4,
             CliFault::Register(fault) if fault.is_memory() => 4,
             CliFault::Tree(TreeFault::Memory)
             | CliFault::Asm(AsmFault::Memory)

@@ -1,25 +1,31 @@
 // The command `serve` where engines take over from one another: what is done when one has used up its epochs.
 
-ghost use Rattle.std.specs.Prelude.{◌≡◌, [], true, IfOk, OnOk, IfErr, OnErr, All};
+ghost use Rattle.std.specs.Prelude.{◌≡◌, [], true, string_bytes, IfOk, OnOk, IfErr, OnErr, All};
+ghost use Rattle.serde_json.specs.View.{view};
 ghost use Rattle.tl_table.specs.Tables.{IsChain};
 ghost use Rattle.tl_workers.specs.Matching.{Matches};
 ghost use Rattle.tl_workers.specs.Sessions.{AreAllOf, AskForEachOnce, FindsItsWrites};
 ghost use Rattle.tl_generations.specs.Generations.{TakesTurn};
+ghost use Rattle.tl_commands.specs.Closing.{IsClosing, tree_after};
 ghost use Rattle.tl_commands.specs.declared.fault.CliFault.TheVariants.{NotClosed};
 ghost use Rattle.tl_commands.specs.Faults.{status_of};
-ghost use Rattle.tl_commands.specs.Generations.{BeginsWithFile, IsTurnFault};
-ghost use Rattle.tl_commands.specs.Serve.{IsConclusionFault, IsOpeningFault};
+ghost use Rattle.tl_commands.specs.Generations.{BeginsWithFile, IsTurnFault, generations_data};
+ghost use Rattle.tl_commands.specs.Scripted.{two_lines_text};
+ghost use Rattle.tl_commands.specs.Serve.{IsConclusionFault, IsOpeningFault, are_many};
 ghost use Rattle.tl_commands.specs.Sinks.{FilesTrails, IsSinkFault};
 
+use crate::closing::{closing_lines, last_tree};
 use crate::fault::CliFault;
-use crate::outputs::put_trails;
-use crate::serving::{close_engine, core_of_file};
+use crate::outputs::{put_trails, two_lines};
+use crate::serving::{close_engine, engine_of, open_engine};
 use crate::sink::TrailSink;
-use std::alloc::Global;
+use serde_json::{Value, json};
+use std::alloc::{AllocError, Global};
 use std::marker::Model;
 use tl_core::Core;
 use tl_generations::Succession;
 use tl_table::Closed;
+use tl_tree::Tree;
 use tl_workers::{Engine, Session};
 
 /// The epochs of an engine that was closed. By its type they follow on one another.
@@ -41,6 +47,30 @@ impl Model for Generation {
 }
 
 impl Generation {
+    // These epochs.
+    pub(crate) fn new(chain: Vec<Closed>) -> Generation
+        requires { IsChain chain.items }
+        ensures { result ≡ chain.items }
+    {
+        Generation { chain }
+    }
+
+    /// The tree that the calls left.
+    pub fn tree(&self) -> &Tree
+        ensures { result.now ≡ tree_after self.now }
+    {
+        last_tree(&self.chain)
+    }
+
+    /// The lines to print: the order of the calls, or, if there are several epochs, the order in each; and the tree that they
+    /// left. 190, 690 or 990 if memory is refused.
+    pub fn lines(&self, alloc: Global) -> Result<String, CliFault>
+        ensures printed { IfOk result (λ s. IsClosing (are_many self.now) self.now (string_bytes s)) }
+        ensures err { IfErr result (λ e. status_of e ≡ 4) }
+    {
+        closing_lines(alloc, &self.chain, self.chain.len() > 1)
+    }
+
     /// The epochs, in their order.
     pub fn chain(&self) -> &[Closed]
         ensures same { result.now ≡ self.now }
@@ -63,12 +93,8 @@ pub fn open_generations(
     ensures opened { IfOk result (λ r. BeginsWithFile limit tree.now r.1) }
     ensures fault { IfErr result (λ e. IsOpeningFault limit tree.now e) }
 {
-    let core = core_of_file(alloc, tree, limit)?;
-    let succession = Succession::new(alloc, &core)?;
-    match sealing_engine(alloc, core) {
-        Ok(engine) => Ok((engine, succession)),
-        Err(fault) => Err(fault),
-    }
+    let (engine, succession) = open_engine(alloc, tree, limit)?;
+    Ok((engine.that_seals(), succession))
 }
 
 // An engine for a core that has no calls yet, which seals its epochs by itself.
@@ -77,10 +103,7 @@ fn sealing_engine(alloc: Global, core: Core) -> Result<Engine, CliFault>
     ensures seals { IfOk result (λ e. e.seals ≡ true) }
     ensures fault { IfErr result (λ e. status_of e ≡ 4) }
 {
-    match Engine::of_core(alloc, core) {
-        Ok(engine) => Ok(engine.that_seals()),
-        Err(refusal) => Err(CliFault::Engine(refusal)),
-    }
+    Ok(engine_of(alloc, core)?.that_seals())
 }
 
 /// Closes an engine with all its sessions. 831 if it doesn't close: a call is unfinished, or a session's list isn't what the table says.
@@ -146,10 +169,24 @@ pub fn next_engine(alloc: Global, succession: &Succession) -> Result<Engine, Cli
     ensures seals { IfOk result (λ e. e.seals ≡ true) }
     ensures fault { IfErr result (λ e. status_of e ≡ 4) }
 {
-    match succession.last().open(alloc) {
-        Ok(core) => sealing_engine(alloc, core),
-        Err(fault) => Err(CliFault::Core(fault)),
-    }
+    let core = succession.last().open(alloc).map_err(CliFault::Core)?;
+    sealing_engine(alloc, core)
+}
+
+fn count_to_value(alloc: Global, generations: u64) -> Result<Value, AllocError>
+    ensures { IfOk result (λ v. view v ≡ generations_data generations) }
+{
+    json!(in alloc; {"generations": generations})
+}
+
+/// The lines to print of engines that followed one another: how many there were, and the tree that the last one left. 190 or 990 if
+/// memory is refused.
+pub fn generations_lines(alloc: Global, generations: u64, tree: &Tree) -> Result<String, CliFault>
+    ensures printed { IfOk result (λ s. string_bytes s ≡ two_lines_text (generations_data generations) tree.now) }
+    ensures err { IfErr result (λ e. status_of e ≡ 4) }
+{
+    let value = count_to_value(alloc, generations)?;
+    two_lines(alloc, &value, tree)
 }
 
 /// Puts into the sink the file of a generation's trails: the trail of its calls, or, if there are several epochs, the list of the trails

@@ -4,7 +4,9 @@ ghost use Rattle.std.specs.Prelude.{◌≡◌, ◌≢◌, ◌++◌, [], map, IfO
 ghost use Rattle.tl_tree.specs.Reading.{tree_of_text};
 ghost use Rattle.tl_json.specs.Procedures.{procedure_form};
 ghost use Rattle.tl_json.specs.declared.fault.RegisterFault.{RegisterFault};
-ghost use Rattle.tl_commands.specs.declared.fault.CliFault.TheVariants.{Register};
+ghost use Rattle.tl_sources.specs.Given.{GiveAll, IsFirstRefusedFile};
+ghost use Rattle.tl_sources.specs.declared.fault.RefusedFile.{RefusedFile};
+ghost use Rattle.tl_commands.specs.declared.fault.CliFault.TheVariants.{Sources, Register};
 ghost use Rattle.tl_commands.specs.Alone.{IsTreeFault};
 ghost use Rattle.tl_commands.specs.Faults.{status_of};
 ghost use Rattle.tl_commands.specs.Scripted.{core_with, AreRegistered, IsUnregistered};
@@ -15,16 +17,31 @@ use tl_core::Core;
 use tl_history::MAX_EVENTS;
 use tl_json::{ProcedureText, RegisterFault, register_all};
 use tl_procedures::NamedProcedure;
+use tl_sources::{Given, all_given};
 use tl_tree::{Tree, TreeFault, read_tree};
 
-/// What a script is carried out on: the bytes of the tree's file and of the script's, procedures that are registered after the script's own,
-/// and how many nodes the tree may have.
-#[derive(Debug, Drop)]
+/// What a script is carried out on: the bytes of the tree's file and of the script's, the files of procedures that are registered after
+/// the script's own, and how many nodes the tree may have.
+#[derive(Clone, Copy, Debug)]
 pub struct Inputs<'a> {
     pub tree: &'a [u8],
     pub script: &'a [u8],
-    pub procedures: Vec<NamedProcedure>,
+    pub sources: &'a [Given<'a>],
     pub limit: u16,
+}
+
+/// The procedures of these files, file by file. Otherwise the first file that is refused, and why. 290 or 490 if memory is refused.
+pub fn procedures_of_files(
+    alloc: Global,
+    files: &[Given<'_>],
+) -> Result<Vec<NamedProcedure>, CliFault>
+    ensures ok { IfOk result (λ found. GiveAll files.now found.items) }
+    ensures fault { IfErr result (λ e. status_of e ≢ 4 → (f : RefusedFile) × (e ≡ Sources f) × IsFirstRefusedFile files.now f) }
+{
+    match all_given(alloc, files) {
+        Ok(procedures) => Ok(procedures),
+        Err(refused) => Err(CliFault::Sources(refused)),
+    }
 }
 
 /// The tree of at most `limit` nodes in a file. 106 if the file isn't UTF-8 or has another form, then 101 to 105.

@@ -4,6 +4,7 @@ ghost use Rattle.std.specs.Prelude.{◌≡◌, [], ◌∷◌, ◌++◌, false, m
 ghost use Rattle.serde_json.specs.View.{view};
 ghost use Rattle.serde_json.specs.Written.{has_float};
 ghost use Rattle.tl_record.specs.Recording.{trail_value};
+ghost use Rattle.tl_tree.specs.Writing.{tree_text};
 ghost use Rattle.tl_tree_locking.specs.History.{AllDone};
 ghost use Rattle.tl_table.specs.Tables.{IsChain};
 ghost use Rattle.tl_trail.specs.Chains.{chain_text};
@@ -29,6 +30,16 @@ pub fn next_lines(text: &mut String, lines: &str) -> Result<(), AllocError>
 {
     text.push_str("\n")?;
     text.push_str(lines)
+}
+
+/// The text of a tree, as a file: its line, and a line feed. 190 or 990 if memory is refused.
+pub fn tree_file(alloc: Global, tree: &Tree) -> Result<String, CliFault>
+    ensures ok { IfOk result (λ s. string_bytes s ≡ tree_text tree.now ++ 10 ∷ []) }
+    ensures err { IfErr result (λ e. status_of e ≡ 4) }
+{
+    let mut text = write_tree(alloc, tree).map_err(CliFault::Tree)?;
+    text.push_str("\n")?;
+    Ok(text)
 }
 
 /// Two lines: a value, and a tree.
@@ -68,14 +79,8 @@ fn trail_of_core(alloc: Global, core: &Core) -> Result<String, CliFault>
     ensures clean { OnOk result (AllDone core.now.seen.past → Clean (trail_value core.now.seen)) }
     ensures err { IfErr result (λ e. status_of e ≡ 4) }
 {
-    let trail = match trail_of(alloc, core) {
-        Ok(trail) => trail,
-        Err(fault) => return Err(CliFault::Trail(fault)),
-    };
-    match write_trail(alloc, &trail) {
-        Ok(text) => Ok(text),
-        Err(fault) => Err(CliFault::Trail(fault)),
-    }
+    let trail = trail_of(alloc, core).map_err(CliFault::Trail)?;
+    write_trail(alloc, &trail).map_err(CliFault::Trail)
 }
 
 /// The text of the core's trail, as a file.

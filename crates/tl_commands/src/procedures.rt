@@ -29,10 +29,7 @@ pub fn code_of_text(alloc: Global, text: &[u8]) -> Result<Code, CliFault>
     let Ok(text) = std::str::from_utf8(text) else {
         return Err(CliFault::NotUtf8);
     };
-    match assemble(alloc, text) {
-        Ok(code) => Ok(code),
-        Err(fault) => Err(CliFault::Asm(fault)),
-    }
+    assemble(alloc, text).map_err(CliFault::Asm)
 }
 
 // The code of a container.
@@ -80,10 +77,7 @@ pub fn asm_cmd(alloc: Global, text: &[u8]) -> Result<(String, Vec<u8>), CliFault
     ensures fault { IfErr result (λ e. IsFirstAssemblingFault text.now e) }
 {
     let code = code_of_text(alloc, text)?;
-    let container = match encode(alloc, &code) {
-        Ok(container) => container,
-        Err(fault) => return Err(CliFault::Code(fault)),
-    };
+    let container = encode(alloc, &code).map_err(CliFault::Code)?;
     let line = count_line(alloc, &code)?;
     Ok((line, container))
 }
@@ -96,10 +90,7 @@ pub fn dis_cmd(alloc: Global, container: &[u8]) -> Result<String, CliFault>
     ensures fault { IfErr result (λ e. IsFirstContainerFault container.now e) }
 {
     let code = code_of_container(alloc, container)?;
-    match disassemble(alloc, &code) {
-        Ok(text) => Ok(text),
-        Err(fault) => Err(CliFault::Asm(fault)),
-    }
+    disassemble(alloc, &code).map_err(CliFault::Asm)
 }
 
 // The same code in the second version. 207 if it isn't in the first version.
@@ -123,10 +114,7 @@ pub fn migrate_cmd(alloc: Global, container: &[u8]) -> Result<(String, Vec<u8>),
     ensures fault { IfErr result (λ e. IsFirstMigratingFault container.now e) }
 {
     let code = migrated_code(code_of_container(alloc, container)?)?;
-    let container = match encode(alloc, &code) {
-        Ok(container) => container,
-        Err(fault) => return Err(CliFault::Code(fault)),
-    };
+    let container = encode(alloc, &code).map_err(CliFault::Code)?;
     let line = count_line(alloc, &code)?;
     Ok((line, container))
 }

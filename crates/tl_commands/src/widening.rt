@@ -1,18 +1,17 @@
 // The command `widen`.
 
-ghost use Rattle.std.specs.Prelude.{◌≡◌, [], ◌∷◌, ◌++◌, length, codes, string_bytes, IfOk, IfErr};
+ghost use Rattle.std.specs.Prelude.{◌≡◌, length, codes, string_bytes, IfOk, IfErr};
 ghost use Rattle.serde_json.specs.Data.{object, member, no_members};
 ghost use Rattle.serde_json.specs.View.{view};
-ghost use Rattle.tl_tree.specs.Writing.{tree_text};
-ghost use Rattle.tl_commands.specs.Faults.{status_of};
 ghost use Rattle.tl_commands.specs.Widening.{nodes_text, WidensTree, IsFirstWideningFault};
 
 use crate::fault::CliFault;
 use crate::inputs::tree_of_file;
+use crate::outputs::tree_file;
 use serde_json::{Value, json};
 use std::alloc::{AllocError, Global};
 use tl_lines::line_of;
-use tl_tree::{Tree, write_tree};
+use tl_tree::Tree;
 
 fn nodes_to_value(alloc: Global, nodes: Value) -> Result<Value, AllocError>
     ensures { IfOk result (λ v. view v ≡ object (member (codes "nodes") (view nodes) no_members)) }
@@ -28,19 +27,6 @@ fn nodes_line(alloc: Global, tree: &Tree) -> Result<String, AllocError>
     line_of(alloc, &value)
 }
 
-// The text of a tree, as a file.
-fn tree_file(alloc: Global, tree: &Tree) -> Result<String, CliFault>
-    ensures ok { IfOk result (λ s. string_bytes s ≡ tree_text tree.now ++ 10 ∷ []) }
-    ensures err { IfErr result (λ e. status_of e ≡ 4) }
-{
-    let mut text = match write_tree(alloc, tree) {
-        Ok(text) => text,
-        Err(fault) => return Err(CliFault::Tree(fault)),
-    };
-    text.push_str("\n")?;
-    Ok(text)
-}
-
 /// The line that says how many nodes a tree has, and the text of the tree, whose records have eight fields. Takes the bytes
 /// of the tree's file. If its records all have four fields, the others are 0.
 ///
@@ -49,10 +35,7 @@ pub fn widen_cmd(alloc: Global, tree: &[u8], limit: u16) -> Result<(String, Stri
     ensures printed { IfOk result (λ r. WidensTree limit tree.now (string_bytes r.0) (string_bytes r.1)) }
     ensures fault { IfErr result (λ e. IsFirstWideningFault limit tree.now e) }
 {
-    let tree = match tree_of_file(alloc, tree, limit) {
-        Ok(tree) => tree,
-        Err(fault) => return Err(CliFault::Tree(fault)),
-    };
+    let tree = tree_of_file(alloc, tree, limit).map_err(CliFault::Tree)?;
     let text = tree_file(alloc, &tree)?;
     let line = nodes_line(alloc, &tree)?;
     Ok((line, text))

@@ -10,7 +10,7 @@ use std::thread::Threads;
 use tl_audit::Silent;
 use tl_commands::{
     CliFault, Inputs, alone_cmd, asm_cmd, audit_cmd, check_cmd, dis_cmd, drive_cmd,
-    drive_with_trail_cmd, run_cmd, run_with_trail_cmd, verify_cmd,
+    keep_generation, run_cmd, verify_cmd,
 };
 use tl_sources::Source;
 use tl_tree::USUAL_NODES;
@@ -79,11 +79,11 @@ fn verified(alloc: Global, text: &str) -> Result<String, CliFault> {
 }
 
 /// What a script is carried out on, without other procedures than its own.
-pub fn inputs<'a>(alloc: Global, tree: &'a str, script: &'a [u8]) -> Inputs<'a> {
+pub fn inputs<'a>(tree: &'a str, script: &'a [u8]) -> Inputs<'a> {
     Inputs {
         tree: tree.as_bytes(),
         script,
-        procedures: Vec::new(alloc),
+        sources: &[],
         limit: USUAL_NODES,
     }
 }
@@ -96,12 +96,12 @@ fn done_alone(alloc: Global, tree: &str, text: &str, args: &str) -> Result<Strin
         None,
         args,
         USUAL_NODES,
-    )
+    )?
+    .lines(alloc)
 }
 
 fn trail_of(alloc: Global, tree: &str, script: &str) -> Result<String, CliFault> {
-    let (_, trail) = drive_with_trail_cmd(alloc, inputs(alloc, tree, script.as_bytes()))?;
-    Ok(trail)
+    drive_cmd(alloc, inputs(tree, script.as_bytes()))?.trail_file(alloc)
 }
 
 fn audited(alloc: Global, tree: &str, script: &str) -> Result<String, CliFault> {
@@ -116,8 +116,8 @@ fn trails_of<R: Threads + Wait + Sync + AllocGlobal>(
 ) -> Result<String, CliFault> {
     let alloc = rt.alloc();
     let mut trails = String::new(alloc);
-    let inputs = inputs(alloc, tree, script.as_bytes());
-    run_with_trail_cmd(rt, alloc, inputs, 1, &NoGate, &mut trails)?;
+    let ran = run_cmd(rt, alloc, inputs(tree, script.as_bytes()), 1, &NoGate)?;
+    keep_generation(alloc, ran.epochs(), &mut trails)?;
     Ok(trails)
 }
 
@@ -164,10 +164,12 @@ fn printed<R: Threads + Wait + Sync + AllocGlobal>(
         Command::Dis(_) => dis_cmd(alloc, bytes),
         Command::Bounds(_) => verify_cmd(alloc, bytes),
         Command::Alone(tree, text, args) => done_alone(alloc, tree, text, args),
-        Command::Drive(tree, _) => drive_cmd(alloc, inputs(alloc, tree, bytes)),
+        Command::Drive(tree, _) => drive_cmd(alloc, inputs(tree, bytes))?.lines(alloc),
         Command::Trail(tree, _) => trail_of(alloc, tree, file),
         Command::DriveAudit(tree, _) => audited(alloc, tree, file),
-        Command::Run(tree, _) => run_cmd(rt, alloc, inputs(alloc, tree, bytes), 1, &NoGate),
+        Command::Run(tree, _) => {
+            run_cmd(rt, alloc, inputs(tree, bytes), 1, &NoGate)?.lines(alloc)
+        }
         Command::RunTrail(tree, _) => trails_of(rt, tree, file),
         Command::RunAudit(tree, _) => chain_audited(rt, tree, file),
         Command::Audit(_) => audit_cmd(alloc, bytes, &mut Silent, USUAL_NODES),

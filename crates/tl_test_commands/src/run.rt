@@ -5,7 +5,7 @@ use crate::commands::{Row, inputs};
 use crate::texts::{ONE_NODE, SWEEP_ALONE, ZEROS};
 use std::test::Fail;
 use tl_audit::Silent;
-use tl_commands::{audit_cmd, run_with_trail_cmd};
+use tl_commands::{audit_cmd, keep_generation, run_cmd};
 use tl_tree::USUAL_NODES;
 use tl_workers::NoGate;
 
@@ -83,9 +83,10 @@ fn two_sweeps_run_at_once(rt: HostRuntime) -> Result<(), Fail> {
     let alloc = rt.alloc();
     let calls = "[\"sweep\",[1]],[\"sweep\",[10]]],\"procs\":[";
     let script = [CALLS, calls, SWEEP_ALONE, "]}"].concat(alloc)?;
-    let inputs = inputs(alloc, ZEROS, script.as_bytes());
+    let ran = run_cmd(&rt, alloc, inputs(ZEROS, script.as_bytes()), 2, &NoGate)?;
+    let lines = ran.lines(alloc)?;
     let mut trail = String::new(alloc);
-    let lines = run_with_trail_cmd(&rt, alloc, inputs, 2, &NoGate, &mut trail)?;
+    keep_generation(alloc, ran.epochs(), &mut trail)?;
     let order = audit_cmd(alloc, trail.as_bytes(), &mut Silent, USUAL_NODES)?;
     let is_first = order.as_str() == "{\"order\":[0,1]}\n";
     assert!(rt; is_first || order.as_str() == "{\"order\":[1,0]}\n");

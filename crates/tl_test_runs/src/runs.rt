@@ -31,10 +31,10 @@ fn two_workers_of_a_run_cross<R: Threads + Wait + Abort + Sync>(
     let inputs = Inputs {
         tree: FORK.as_bytes(),
         script: SCRIPT,
-        procedures: Vec::new(alloc),
+        sources: &[],
         limit: USUAL_NODES,
     };
-    let printed = run_cmd(rt, alloc, inputs, 2, &gate)?;
+    let printed = run_cmd(rt, alloc, inputs, 2, &gate)?.lines(alloc)?;
     assert_eq!(rt; printed.as_str(), PRINTED);
     assert!(rt; gate.came_in_time());
     Ok(())

@@ -2,9 +2,8 @@
 
 use crate::archive::{Finish, Trails};
 use crate::failure::Failure;
-use crate::program::{Program, printed};
-use crate::trail_file::TrailFile;
-use crate::{CliFault, conclude_engine, conclude_engine_with_trail, open_engine, open_generations};
+use crate::program::Program;
+use crate::{CliFault, end_generation, generations_lines, open_engine, open_generations};
 use std::net::{Net, TcpListener, TcpStream};
 use std::rt::Files;
 use std::sync::Wait;
@@ -146,7 +145,7 @@ where
         let file = self.read_file(tree)?;
         match options.sealing {
             Sealing::ByHand { connections } => {
-                self.serve_sealed_by_hand(&file, options, connections, outputs.trail)
+                self.serve_sealed_by_hand(&file, options, connections, outputs)
             }
             Sealing::Itself(lasting) => {
                 self.serve_lasting(&file, options, lasting, procedures, outputs, archive)
@@ -154,23 +153,22 @@ where
         }
     }
 
-    // The trail is written to a file, if one is named, once all connections have ended.
+    // What is written besides is written, if a file is named for it, once all connections have ended.
     fn serve_sealed_by_hand<'p>(
         &self,
         tree: &[u8],
         options: ServeOptions<'p>,
         connections: u16,
-        trail: Option<&'p str>,
+        outputs: Outputs<'p>,
     ) -> Result<String, Failure<'p>> {
         let alloc = self.rt.alloc();
-        let engine = open_engine(alloc, tree, self.nodes)?;
+        let (engine, mut succession) = open_engine(alloc, tree, self.nodes)?;
         let sessions = self.sessions_of(&engine, options, connections)?;
-        let Some(path) = trail else {
-            return Ok(conclude_engine(alloc, engine, sessions)?);
-        };
-        let mut file = TrailFile::new(self.rt, path);
-        let concluded = conclude_engine_with_trail(alloc, engine, sessions, &mut file);
-        printed(path, file, concluded)
+        let epochs = end_generation(alloc, engine, sessions, &mut succession)?;
+        let lines = epochs.lines(alloc)?;
+        self.keep(outputs.trail, &epochs)?;
+        self.save(outputs.tree, epochs.tree())?;
+        Ok(lines)
     }
 
     // A server that seals its epochs by itself, generation after generation.
@@ -364,14 +362,12 @@ where
         outputs: Outputs<'p>,
     ) -> Result<String, Failure<'p>> {
         let alloc = self.rt.alloc();
-        let (count, tree) = archive.finish(alloc)?;
-        let lines = format!(in alloc; "{{\"generations\":{count}}}\n{tree}\n")?;
+        let generations = archive.finish(alloc)?;
+        let lines = generations_lines(alloc, generations, archive.tree())?;
+        self.save(outputs.tree, archive.tree())?;
         let Some(fault) = archive.unwritten() else {
             return Ok(lines);
         };
-        if let Some(path) = outputs.tree {
-            self.save(path, &lines)?;
-        }
         match self.rt.print(lines.as_str()) {
             Ok(()) => Err(Failure::Refused(fault)),
             Err(_) => Err(Failure::Refused(CliFault::Unwritable)),

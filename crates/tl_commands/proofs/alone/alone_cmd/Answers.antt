@@ -1,9 +1,7 @@
-use Rattle.std.proofs.Common.{◌≡◌, ap, ap₂, ◌∙◌, sym, refl, length, string_bytes, ℕ, List, Option, option_map, Bor}
-use Rattle.tl_machine.specs.Alone.{alone}
-use Rattle.tl_machine.specs.Outcomes.{outcome_of}
-use Rattle.tl_commands.proofs.AloneLines.{printed_from}
+use Rattle.std.proofs.Common.{◌≡◌, ap, ◌∙◌, sym, refl, length, ℕ, List, Option, option_map, Bor}
 use Rattle.std.specs.Arc.{arc_value}
-use Rattle.tl_commands.specs.Alone.{AloneInputs, printed}
+use Rattle.tl_commands.specs.Alone.{AloneInputs}
+use Rattle.tl_commands.proofs.AloneLines.{ran_from}
 use Rattle.tl_commands.proofs.alone.alone_cmd.Goals as goal
 
 pub returns-in-Err-procedure_of-clause-fault : goal.returns-in-Err-procedure_of-clause-fault
@@ -25,8 +23,8 @@ returns-in_default-alone-clause-fault c =
     let code : arc_value c.in-Ok-new.procedure ≡ c.in-Ok-procedure_of.procedure = c.in-Ok-new.ensures.ok in
     (inputs, λ arity. cc (c.in_default-alone.ensures.wrong.1 (ap length c.deref.ensures.value ∙ arity ∙ sym (ap (λ p. p.arity) code))))
 
-pub returns-in-Ok-append_lines-clause-printed : goal.returns-in-Ok-append_lines-clause-printed
-returns-in-Ok-append_lines-clause-printed c =
+pub returns-clause-ran : goal.returns-clause-ran
+returns-clause-ran c =
     let name : Option (List ℕ) = option_map (λ (n : Bor (List ℕ)). n.now) c.args.name in
     let inputs : AloneInputs c.args.limit c.args.tree.now c.args.source name c.args.args.now =
     record {
@@ -42,10 +40,8 @@ returns-in-Ok-append_lines-clause-printed c =
     let code : p ≡ c.in-Ok-procedure_of.procedure = c.in-Ok-new.ensures.ok in
     let args : c.deref.result.now ≡ c.in_ok-args.args.items = c.deref.ensures.value in
     let arity : length c.deref.result.now ≡ p.arity = c.in-Ok-alone.ensures.wrong.0 refl in
-    let o = outcome_of (alone p.instrs c.in-Ok.tree.parents c.deref.result.now c.in-Ok.tree.records) in
-    let same = printed_from c.in-Ok.tree c.alone.new.tree o c.in-Ok-alone.answer.reply c.in-Ok-alone.answer.steps
-    (string_bytes c.in-Ok-answer_line.text) c.deref-2.result.now (string_bytes c.append_lines.new.text)
-    c.in-Ok-alone.ensures.answer c.in-Ok-alone.ensures.tree c.in-Ok-answer_line.ensures (c.deref-2.ensures ∙ c.in-Ok-write_tree.ensures.text) c.in-Ok-append_lines.ensures
-    in
-    let again = ap₂ (λ instrs args. printed c.in-Ok.tree (outcome_of (alone instrs c.in-Ok.tree.parents args c.in-Ok.tree.records))) (ap (λ p. p.instrs) code) args in
-    record { inputs = inputs; arity = sym (ap length args) ∙ arity ∙ ap (λ p. p.arity) code; same = same ∙ again }
+    record {
+      inputs = inputs;
+      arity = sym (ap length args) ∙ arity ∙ ap (λ p. p.arity) code;
+      same = ran_from c.in-Ok.tree c.alone.new.tree p c.in-Ok-procedure_of.procedure c.deref.result.now c.in_ok-args.args.items c.in-Ok-alone.answer.reply c.in-Ok-alone.answer.steps code args c.in-Ok-alone.ensures.answer c.in-Ok-alone.ensures.tree;
+    }

@@ -1,11 +1,7 @@
-use Rattle.std.proofs.Common.{◌≡◌, ◌-◌, length, map, Some, refl, sym, ap, ◌∙◌, string_bytes}
-use Rattle.std.specs.Prelude.{slice_get}
+use Rattle.std.proofs.Common.{map, ap, ◌∙◌, string_bytes}
 use Rattle.std.proofs.lemmas.Result.{IfOk-weaker}
 use Rattle.tl_table.specs.Chains.{calls_in}
-use Rattle.tl_core.specs.Cores.{CoreState}
 use Rattle.tl_commands.specs.Closing.{IsClosing, orders_form, tree_after}
-use Rattle.tl_commands.specs.Scripted.{tree_now}
-use Rattle.tl_commands.proofs.ClosingLemmas.{last_tree}
 use Rattle.tl_commands.proofs.LineLemmas.{form_whole, two_lines_of}
 use Rattle.tl_commands.proofs.closing.closing_lines.Goals as goal
 
@@ -15,14 +11,10 @@ returns-clause-ok c =
     let b = c.args.has_epochs in
     let orders = map calls_in c.in-Ok.orders.items in
     let value_is = c.in_ok-value.ensures ∙ ap (λ os. orders_form b (map calls_in os)) c.deref.ensures.value in
-    let last = c.in-Some.last.now in
-    let at : slice_get es (length es - 1) ≡ Some last = sym (rw c.in-Some.is at c.last.ensures.value) in
-    let same : c.core.result.now ≡ last.core = c.core.ensures.same in
-    let tree_is : c.tree.result.now ≡ tree_after es = c.tree.ensures ∙ ap (λ (it : CoreState). tree_now it.seen) same ∙ last_tree es (length es - 1) last refl at in
     IfOk-weaker c.two_lines.result _ (λ s. IsClosing b es (string_bytes s))
     (λ s told. record {
       orders = orders;
       ordered = record { chain = c.requires; same = c.in-Ok.ensures.orders; serial = c.in-Ok.ensures.serial };
-      same = two_lines_of _ (orders_form b orders) _ (tree_after es) (string_bytes s) value_is tree_is (form_whole b orders) told;
+      same = two_lines_of _ (orders_form b orders) _ (tree_after es) (string_bytes s) value_is c.last_tree.ensures (form_whole b orders) told;
     })
     c.two_lines.ensures.ok
