@@ -1,12 +1,12 @@
 -- Files one after another, between which nodes may have been appended.
-use Rattle.std.proofs.Common.{◌≡◌, ℕ, ◌+◌, ◌-◌, ℤ, List, [], ◌∷◌, ◌++◌, length, map, replicate, Option, Some, None, refl, sym, ap, ◌∙◌, subst, append_assoc, arith}
+use Rattle.std.proofs.Common.{◌≡◌, ℕ, ◌-◌, ◌≤◌, ℤ, List, [], ◌∷◌, ◌++◌, length, map, replicate, Some, None, refl, sym, ap, ◌∙◌, subst, append_assoc, arith}
 use Rattle.std.proofs.lemmas.List.{append-nil, length-append, length-replicate}
+use Rattle.tl_procedures.proofs.Prefixes.{keeps_shorter}
 use Rattle.tl_tree.specs.Records.{Records}
 use Rattle.tl_tree_locking.specs.World.{reply_of}
 use Rattle.tl_tree_locking.specs.Epochs.{run_each, joined, joined_replies}
-use Rattle.tl_trail.specs.Trails.{TrailValue, IsTrail, world_of}
-use Rattle.tl_trail.specs.Clean.{Clean}
-use Rattle.tl_audit.specs.Chains.{TakesOverGrown, after_file, CleanAfter, AreTrails, AreCleanFiles, AreSerialFiles, TellTheReplies, run_files, trails_of, opening_of, ends_of, last_trail, order_of, zero_record}
+use Rattle.tl_trail.specs.Trails.{TrailValue, world_of}
+use Rattle.tl_audit.specs.Chains.{TakesOverGrown, AfterFile, after_file, CleanAfter, AreTrails, AreCleanFiles, AreSerialFiles, TellTheReplies, run_files, trails_of, opening_of, ends_of, last_trail, order_of, zero_record}
 use Rattle.tl_audit.proofs.ChainLemmas.{chain_serial, by_itself}
 
 -- these records, filled up with zero records to n
@@ -22,6 +22,10 @@ filled_grown t u h =
     let zeros = length-replicate (length h.added) zero_record in
     let count : length u.opening - length t.ends ≡ length h.added = omega (arith, size, zeros) in
     ap (λ k. t.ends ++ replicate k zero_record) count ∙ sym h.opening
+
+-- the first of the trails has as many procedures as the trail before it
+pub keeps_count : (t u : TrailValue) (us : List TrailValue) → CleanAfter (AfterFile t) (u ∷ us) → length t.procedures ≤ length u.procedures
+keeps_count t u us clean = keeps_shorter t.procedures u.procedures clean.0.procedures
 
 -- ---- one file
 

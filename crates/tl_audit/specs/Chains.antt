@@ -6,7 +6,7 @@ use Rattle.tl_tree_locking.specs.Alone.{SerialOutcome}
 use Rattle.tl_tree_locking.specs.Epochs.{run_each, joined, joined_replies}
 use Rattle.tl_tree_locking.specs.Order.{placed}
 use Rattle.tl_tree_locking.specs.World.{reply_of}
-use Rattle.tl_procedures.specs.Names.{BeginsWith}
+use Rattle.tl_procedures.specs.Names.{BeginsWith, KeepsNames, AreOtherNames}
 use Rattle.tl_serial_order.specs.Order.{OrderValue}
 use Rattle.tl_trail.specs.Trails.{TrailValue, IsTrail, call_at, world_of}
 use Rattle.tl_trail.specs.Clean.{Clean}
@@ -26,12 +26,12 @@ abbrev pub zero_record : Record
 zero_record = replicate field_count (pos 0)
 
 -- The second trail opens with the tree that the first one ends with, possibly with nodes appended whose records are
--- zeros. Its procedures begin with those of the first.
+-- zeros. Its procedures begin with those of the first, possibly with other codes.
 pub record TakesOverGrown (t u : TrailValue) : Type 0 where
   pub added : List ℕ
   pub parents : u.parents ≡ t.parents ++ added
   pub opening : u.opening ≡ t.ends ++ replicate (length added) zero_record
-  pub procedures : BeginsWith t.procedures u.procedures
+  pub procedures : KeepsNames t.procedures u.procedures
 
 -- what precedes a trail: nothing, another file that ends with this trail, or this trail of its own chain
 pub data Before : Type 0 where
@@ -47,7 +47,7 @@ abbrev pub after_trail : Option TrailValue → Before
 after_trail None = Nothing
 after_trail (Some t) = AfterTrail t
 
--- the trail continues what precedes it; nodes are appended only between files
+-- the trail continues what precedes it; nodes are appended and procedures replaced only between files
 abbrev pub TakesOverFrom : Before → TrailValue → Type 0
 TakesOverFrom Nothing u = Unit {0}
 TakesOverFrom (AfterFile t) u = TakesOverGrown t u
@@ -132,6 +132,12 @@ before_at before ts zero = before
 before_at before ts (suc n) = after_trail (slice_get ts n)
 
 -- ---- files one after another
+
+-- the names of those procedures of the trail before that have other codes in the first of these trails; none if there is no trail before
+abbrev pub AreReplacedNames : Option TrailValue → List TrailValue → List (List ℕ) → Type 0
+AreReplacedNames None ts names = names ≡ []
+AreReplacedNames (Some t) [] names = names ≡ []
+AreReplacedNames (Some t) (u ∷ us) names = AreOtherNames t.procedures u.procedures names
 
 -- the last of these trails; `before` if there are none
 abbrev pub last_trail : Option TrailValue → List TrailValue → Option TrailValue

@@ -1,12 +1,12 @@
 // Whether a chain of trails is clean.
 
-ghost use Rattle.std.specs.Prelude.{◌≡◌, ◌≢◌, ◌<◌, ◌≤◌, ◌↔◌, ℕ, List, ◌++◌, length, map, replicate, option_copied, slice_get, Some, IsTrue, IfOk, IfErr};
+ghost use Rattle.std.specs.Prelude.{string_bytes, ◌≡◌, ◌≢◌, ◌<◌, ◌≤◌, ◌↔◌, ℕ, List, ◌++◌, length, map, replicate, option_copied, slice_get, Some, IsTrue, IfOk, IfErr};
 ghost use Rattle.tl_trail.specs.Trails.{IsTrail};
 ghost use Rattle.tl_trail.specs.Clean.{Clean};
 ghost use Rattle.tl_audit.specs.declared.chain.ChainFault.TheVariants as chain;
 ghost use Rattle.tl_audit.specs.declared.fault.AuditFault.TheVariants as audit;
 ghost use Rattle.tl_trail.specs.declared.chain.TheConstants.{MAX_TRAILS};
-ghost use Rattle.tl_audit.specs.Chains.{TakesOver, TakesOverGrown, TakesOverFrom, after_file, zero_record, CleanAfter, IsCleanChain, IsFirstAfter, IsFirstChainFault, AreSerial, IsFaultAt, before_at, order_of, calls_in};
+ghost use Rattle.tl_audit.specs.Chains.{TakesOver, TakesOverGrown, TakesOverFrom, after_file, zero_record, CleanAfter, IsCleanChain, IsFirstAfter, IsFirstChainFault, AreSerial, IsFaultAt, before_at, order_of, calls_in, AreReplacedNames};
 ghost use Rattle.tl_audit.specs.Faults.{chain_numbers_of};
 
 use crate::auditing::audit_with;
@@ -100,8 +100,8 @@ pub fn audit_chain_with<P: Progress>(
 }
 
 /// The same of the chain of a file that comes after another file: its first trail must take over from the trail that the other one ends
-/// with, if one is given. Between files nodes may have been appended to the tree, with zeros as their records. 718 with trail 0 if it
-/// doesn't take over.
+/// with, if one is given. Between files nodes may have been appended to the tree, with zeros as their records, and procedures may have got
+/// other codes under their names. 718 with trail 0 if it doesn't take over.
 pub fn audit_chain_after<P: Progress>(
     alloc: Global,
     before: Option<&Trail>,
@@ -125,6 +125,22 @@ pub fn audit_chain_after<P: Progress>(
         }
     }
     Ok(orders)
+}
+
+/// The names of the procedures that have other codes in a clean chain than in the trail before it, with which another file ends.
+#[tactic(auto, using(crate::proofs::FileLemmas::keeps_count))]
+pub fn replaced_names(
+    alloc: Global,
+    before: Option<&Trail>,
+    trails: &[Trail],
+) -> Result<Vec<String>, AllocError>
+    requires { CleanAfter (after_file (option_copied before)) trails.now }
+    ensures { IfOk result (λ v. AreReplacedNames (option_copied before.entry) trails.now (map string_bytes v.items)) }
+{
+    let (Some(before), Some(first)) = (before, trails.first()) else {
+        return Ok(Vec::new(alloc));
+    };
+    first.procedures().others(alloc, before.procedures())
 }
 
 /// How far the audit of a chain is: where to report it, how many events the trails before this one have, and how many all
@@ -232,7 +248,7 @@ fn takes_over(before: &Trail, trail: &Trail) -> bool
     trail.procedures().begin_with(before.procedures())
 }
 
-// The same where nodes may have been appended to the tree in between, with zeros as their records.
+// The same where nodes may have been appended to the tree in between, with zeros as their records, and procedures replaced.
 fn takes_over_grown(before: &Trail, trail: &Trail) -> bool
     ensures { IsTrue result ↔ TakesOverGrown before.now trail.now }
 {
@@ -242,7 +258,7 @@ fn takes_over_grown(before: &Trail, trail: &Trail) -> bool
     if !are_followed_by_zeros(before.ends(), trail.opening().records()) {
         return false;
     }
-    trail.procedures().begin_with(before.procedures())
+    trail.procedures().keep_names(before.procedures())
 }
 
 // Whether the shape has the nodes of the other one first, with the same parents.

@@ -14,7 +14,7 @@ mod replays;
 mod watch;
 
 pub use auditing::{audit, audit_with};
-pub use chain::{ChainFault, audit_chain, audit_chain_after, audit_chain_with};
+pub use chain::{ChainFault, audit_chain, audit_chain_after, audit_chain_with, replaced_names};
 pub use fault::AuditFault;
 pub use progress::{EVENTS_BETWEEN, Progress, Silent};
 pub use tl_trail::{

@@ -8,7 +8,8 @@ use crate::{
 };
 use std::alloc::Global;
 use std::rt::Files;
-use tl_generations::{GrowthFault, Succession};
+use tl_generations::{GrowthFault, Legacy, Succession};
+use tl_procedures::{Procedures, ReplacingFault};
 use tl_server::Keeper;
 use tl_tree::Tree;
 use tl_workers::{Engine, Session};
@@ -31,6 +32,9 @@ pub trait Finish {
 
     /// The tree that the last engine left.
     fn tree(&self) -> &Tree;
+
+    /// What the last engine left, if it closed and there is memory.
+    fn left(&mut self, alloc: Global) -> Option<&Legacy>;
 
     /// Why a file wasn't written, of the first one that wasn't.
     fn unwritten(&self) -> Option<CliFault>;
@@ -83,6 +87,23 @@ impl<R: Files + Eprint> Archive<R> {
         take_generation(alloc, closed, &mut self.succession)?;
         self.is_taken = true;
         Ok(())
+    }
+
+    // Whether the succession has what the last engine did. If not, and not for want of memory, the server can't go on.
+    fn has_taken(&mut self, alloc: Global) -> bool
+        ensures { IsTrue result → IsTrue self.new.is_taken }
+    {
+        if self.broken.is_some() {
+            return false;
+        }
+        match self.take(alloc) {
+            Ok(()) => true,
+            Err(CliFault::NotClosed) => {
+                self.broken = Some(CliFault::NotClosed);
+                false
+            }
+            Err(_) => false,
+        }
     }
 
     // Writes what the last engine did, if that isn't done yet.
@@ -142,6 +163,14 @@ impl<R: Files + Eprint> Finish for Archive<R> {
         self.succession.last().tree()
     }
 
+    fn left(&mut self, alloc: Global) -> Option<&Legacy> {
+        if self.has_taken(alloc) {
+            Some(self.succession.last())
+        } else {
+            None
+        }
+    }
+
     fn unwritten(&self) -> Option<CliFault> {
         self.unwritten
     }
@@ -164,17 +193,10 @@ impl<R: Files + Eprint> Keeper for Archive<R> {
     }
 
     fn open(&mut self, alloc: Global) -> Option<Engine> {
-        if self.broken.is_some() {
+        if !self.has_taken(alloc) {
             return None;
         }
-        match self.take(alloc) {
-            Ok(()) => next_engine(alloc, &self.succession).ok(),
-            Err(CliFault::NotClosed) => {
-                self.broken = Some(CliFault::NotClosed);
-                None
-            }
-            Err(_) => None,
-        }
+        next_engine(alloc, &self.succession).ok()
     }
 
     fn nodes(&self) -> u16 {
@@ -186,18 +208,17 @@ impl<R: Files + Eprint> Keeper for Archive<R> {
     }
 
     fn grow(&mut self, alloc: Global, parents: &[i64]) -> Result<u16, GrowthFault> {
-        if self.broken.is_some() {
+        if !self.has_taken(alloc) {
             return Err(GrowthFault::Memory);
         }
-        match self.take(alloc) {
-            Ok(()) => self.succession.grow(alloc, parents, self.nodes),
-            Err(fault) => {
-                if fault == CliFault::NotClosed {
-                    self.broken = Some(fault);
-                }
-                Err(GrowthFault::Memory)
-            }
+        self.succession.grow(alloc, parents, self.nodes)
+    }
+
+    fn replace(&mut self, alloc: Global, others: &Procedures) -> Result<(), ReplacingFault> {
+        if !self.has_taken(alloc) {
+            return Err(ReplacingFault::Memory);
         }
+        self.succession.replace(alloc, others)
     }
 
     fn keep(&mut self, alloc: Global) {

@@ -7,7 +7,7 @@ use Rattle.tl_trail.specs.Reading.{IsTrailText, IsFirstTrailFault}
 use Rattle.tl_trail.specs.Chains.{IsChainText, IsFirstChainFault}
 use Rattle.tl_trail.specs.declared.fault.TrailFault.{TrailFault}
 use Rattle.tl_trail.specs.declared.fault.TrailFault.TheVariants.{NotTrail}
-use Rattle.tl_audit.specs.Chains.{AfterTrail, AreSerial, CleanAfter, after_file, IsFirstAfter, last_after, order_of}
+use Rattle.tl_audit.specs.Chains.{AfterTrail, AreSerial, CleanAfter, after_file, IsFirstAfter, last_after, order_of, AreReplacedNames}
 use Rattle.tl_audit.specs.declared.chain.ChainFault.{ChainFault}
 use Rattle.tl_audit.specs.declared.chain.ChainFault.TheVariants.{InEpoch}
 use Rattle.tl_commands.specs.declared.fault.CliFault.{CliFault}
@@ -33,8 +33,8 @@ fault_of_file is_list f = Chain f
 -- The trails of the file are clean and continue the trail before, if there is one; nodes may have been appended to the
 -- tree in between. The output is the list of the orders that their events determine. All calls of the file, run alone one
 -- after another in these orders, leave the end records and give their replies. The next file must continue the last
--- trail.
-pub record AuditsNext (limit : ℕ) (before : Option TrailValue) (bytes out : List ℕ) (last : TrailValue) : Type 0 where
+-- trail. These are the names of the procedures that were replaced before the file.
+pub record AuditsNext (limit : ℕ) (before : Option TrailValue) (bytes out : List ℕ) (last : TrailValue) (names : List (List ℕ)) : Type 0 where
   pub utf8 : IsUtf8 bytes
   pub trails : List TrailValue
   pub text : AreTrailsOf limit (begins_with_list bytes) bytes trails
@@ -42,6 +42,7 @@ pub record AuditsNext (limit : ℕ) (before : Option TrailValue) (bytes out : Li
   pub serial : AreSerial trails (map order_of trails)
   pub ends : last_after (after_file before) trails ≡ AfterTrail last
   pub same : out ≡ compact_text (orders_data (map order_of trails)) ++ 10 ∷ []
+  pub replaced : AreReplacedNames before trails names
 
 -- the first fault of the text
 abbrev pub IsUnread : ℕ → List ℕ → CliFault → Type 0

@@ -15,7 +15,9 @@ ghost use Rattle.tl_commands.specs.NextAudit.{AreTrailsOf, AuditsNext, IsFirstNe
 use crate::closing::all_orders_to_value;
 use crate::fault::CliFault;
 use std::alloc::{AllocError, Global};
-use tl_audit::{ChainFault, Progress, audit_chain_after, audit_chain_with, audit_with};
+use tl_audit::{
+    ChainFault, Progress, audit_chain_after, audit_chain_with, audit_with, replaced_names,
+};
 use tl_json::order_to_value;
 use tl_lines::line_of;
 use tl_serial_order::Order;
@@ -188,9 +190,20 @@ fn last_of(trails: Vec<Trail>) -> Trail
     last
 }
 
-/// One file more of several that belong together: the line of the orders of its trails, and its last trail, from which the next file has to
-/// take over. `before` is the last trail of the file before, if there is one. So one file and one trail are in memory at a time. Between
-/// files nodes may have been appended to the tree, with zeros as their records.
+/// What a file's audit comes to where it is one of several.
+#[derive(Drop)]
+pub struct AuditedFile {
+    /// The orders of its trails, as a line.
+    pub line: String,
+    /// Its last trail.
+    pub last: Trail,
+    /// The names of the procedures that have other codes than in the file before.
+    pub replaced: Vec<String>,
+}
+
+/// One file more of several that belong together: the line of the orders of its trails, its last trail, from which the next file has to
+/// take over, and which procedures were replaced. `before` is the last trail of the file before, if there is one. So one file and one
+/// trail are in memory at a time. Between files nodes may have been appended to the tree, with zeros as their records.
 ///
 /// The first fault, as of `audit_cmd`, but 718 with trail 0 if the file doesn't take over where the one before it ends.
 pub fn audit_next_cmd<P: Progress>(
@@ -199,8 +212,8 @@ pub fn audit_next_cmd<P: Progress>(
     before: Option<&Trail>,
     progress: &mut P,
     limit: u16,
-) -> Result<(String, Trail), CliFault>
-    ensures printed { IfOk result (λ r. AuditsNext limit (option_copied before.entry) file.now (string_bytes r.0) r.1) }
+) -> Result<AuditedFile, CliFault>
+    ensures printed { IfOk result (λ r. AuditsNext limit (option_copied before.entry) file.now (string_bytes r.line) r.last (map string_bytes r.replaced.items)) }
     ensures fault { IfErr result (λ e. IsFirstNextFault limit (option_copied before.entry) file.now e) }
 {
     let Ok(text) = std::str::from_utf8(file) else {
@@ -208,8 +221,11 @@ pub fn audit_next_cmd<P: Progress>(
     };
     let is_list = begins_with_list(text);
     let trails = trails_of_text(alloc, text, is_list, limit)?;
-    match orders_after(alloc, before, &trails, is_list, progress) {
-        Ok(line) => Ok((line, last_of(trails))),
-        Err(fault) => Err(fault),
-    }
+    let line = orders_after(alloc, before, &trails, is_list, progress)?;
+    let replaced = replaced_names(alloc, before, &trails)?;
+    Ok(AuditedFile {
+        line,
+        last: last_of(trails),
+        replaced,
+    })
 }

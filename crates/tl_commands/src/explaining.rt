@@ -332,9 +332,23 @@ fn first_other(ends: &[Record], opening: &[Record]) -> Option<usize> {
     None
 }
 
+// Whether the trail's procedures are those of the trail before and more. Between files they may have got other codes.
+fn takes_procedures(before: &Trail, trail: &Trail, is_between_files: bool) -> bool {
+    if is_between_files {
+        trail.procedures().keep_names(before.procedures())
+    } else {
+        trail.procedures().begin_with(before.procedures())
+    }
+}
+
 // Why the trail doesn't go on where the one before it ends.
-fn seam_text(alloc: Global, before: &Trail, trail: &Trail) -> Result<String, AllocError> {
-    if !trail.procedures().begin_with(before.procedures()) {
+fn seam_text(
+    alloc: Global,
+    before: &Trail,
+    trail: &Trail,
+    is_between_files: bool,
+) -> Result<String, AllocError> {
+    if !takes_procedures(before, trail, is_between_files) {
         return String::from_str(
             alloc,
             "its procedures don't begin with all procedures of the trail before",
@@ -375,7 +389,7 @@ fn chain_text(
                 None => before,
             };
             match (earlier, trails.get(epoch as usize)) {
-                (Some(earlier), Some(trail)) => seam_text(alloc, earlier, trail),
+                (Some(earlier), Some(trail)) => seam_text(alloc, earlier, trail, epoch == 0),
                 _ => Ok(String::new(alloc)),
             }
         }

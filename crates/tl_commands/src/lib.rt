@@ -25,7 +25,7 @@ mod trace;
 mod widening;
 
 pub use alone::{RanAlone, alone_cmd};
-pub use auditing::{audit_cmd, audit_next_cmd};
+pub use auditing::{AuditedFile, audit_cmd, audit_next_cmd};
 pub use checking::check_cmd;
 pub use driving::{Driven, drive_cmd};
 pub use explaining::explain_audit_fault;

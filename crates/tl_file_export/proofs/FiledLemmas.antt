@@ -1,11 +1,13 @@
 -- A trail more in files.
-use Rattle.std.proofs.Common.{◌≡◌, ◌<◌, ℕ, suc, ◌+◌, List, [], ◌∷◌, ◌++◌, length, refl, sym, ap, ◌∙◌, append_assoc, arith}
+use Rattle.std.proofs.Common.{◌≡◌, ◌<◌, ℕ, suc, ◌+◌, List, [], ◌∷◌, ◌++◌, length, Option, Some, refl, sym, ap, ◌∙◌, subst, append_assoc, arith}
+use Rattle.std.proofs.lemmas.Option.{same_Some}
 use Rattle.std.proofs.lemmas.List.{append-nil, length-append}
 use Rattle.tl_trail.specs.Trails.{TrailValue}
 use Rattle.tl_trail.specs.declared.chain.TheConstants.{MAX_TRAILS}
 use Rattle.tl_audit.specs.Chains.{trails_of}
 use Rattle.tl_export.specs.Exported.{TookMore}
-use Rattle.tl_file_export.specs.Filed.{FileList, Became, GotMore, begun, with_more, nodes_of, AreOf, IsFile, IsFollowed, AreSplit, AreKept, AreSoMany}
+use Rattle.tl_file_export.specs.Filed.{FileList, Became, GotMore, begun, with_more, ending_of, GoesOn, AreInLine, IsLine, IsFile, BeginsOn, IsFollowed, AreSplit, AreKept, AreSoMany}
+use Rattle.tl_file_export.specs.declared.splitting.Ending.{Ending}
 
 -- ---- what is in them
 
@@ -20,57 +22,86 @@ trails_more t (ts ∷ us ∷ fs) = ap (λ xs. ts ++ xs) (trails_more t (us ∷ f
 
 -- ---- how they are split
 
-are_more : (n : ℕ) (ts : List TrailValue) (t : TrailValue) → AreOf n ts → nodes_of t ≡ n → AreOf n (ts ++ t ∷ [])
-are_more n [] t are is = (is, tt)
-are_more n (u ∷ ts) t are is = (are.0, are_more n ts t are.1 is)
+in_line_more : (first last : Ending) (ts : List TrailValue) (t : TrailValue) → AreInLine first ts last → GoesOn last t → AreInLine first (ts ++ t ∷ []) (ending_of t)
+in_line_more first last [] t line on = (subst (λ e. GoesOn e t) (sym line) on, refl)
+in_line_more first last (u ∷ ts) t line on = (line.0, in_line_more (ending_of u) last ts t line.1 on)
 
-were_less : (n : ℕ) (ts : List TrailValue) (t : TrailValue) → AreOf n (ts ++ t ∷ []) → AreOf n ts
-were_less n [] t are = tt
-were_less n (u ∷ ts) t are = (are.0, were_less n ts t are.1)
+line_more : (last : Ending) (ts : List TrailValue) (t : TrailValue) → IsLine ts last → GoesOn last t → IsLine (ts ++ t ∷ []) (ending_of t)
+line_more last [] t line on = absurd line
+line_more last (u ∷ ts) t line on = in_line_more (ending_of u) last ts t line on
 
-one : (t : TrailValue) → IsFile (nodes_of t) (t ∷ [])
-one t = record { some = omega arith; few = omega arith; same = (refl, tt) }
+pub one : (t : TrailValue) → IsFile (ending_of t) (t ∷ [])
+one t = record { few = omega arith; line = refl }
 
-split_begun : (n c : ℕ) (t : TrailValue) (fs : List (List TrailValue)) → AreSplit n c fs → (0 < c → c < MAX_TRAILS → n ≡ nodes_of t → ⊥) → AreSplit (nodes_of t) 1 (begun t fs)
-split_begun n c t [] split ends = (one t, refl)
-split_begun n c t (ts ∷ []) split ends =
+some_trails : (last : Ending) (ts : List TrailValue) → IsLine ts last → 0 < length ts
+some_trails last [] line = absurd line
+some_trails last (t ∷ ts) line = omega arith
+
+-- why the next trail begins a file
+abbrev Ends : Option Ending → ℕ → TrailValue → Type 0
+Ends last c t = (e : Ending) → 0 < c → c < MAX_TRAILS → last ≡ Some e → GoesOn e t → ⊥
+
+split_begun : (last : Option Ending) (c : ℕ) (t : TrailValue) (fs : List (List TrailValue)) → AreSplit last c fs → Ends last c t → AreSplit (Some (ending_of t)) 1 (begun t fs)
+split_begun last c t [] split ends = (ending_of t, refl, one t, refl)
+split_begun last c t (ts ∷ []) split ends =
+    let some = some_trails split.0 ts split.2.line in
     let followed : IsFollowed ts (t ∷ []) = record {
-      nodes = n;
-      file = split.0;
-      reason = λ room same. ends (omega (arith, split.0.some, split.1)) (omega (arith, room, split.1)) (sym same.0);
+      last = split.0;
+      file = split.2;
+      reason = λ room on. ends split.0 (omega (arith, some, split.3)) (omega (arith, room, split.3)) split.1 on;
     } in
-    (followed, (one t, refl))
-split_begun n c t (ts ∷ us ∷ fs) split ends = (split.0, split_begun n c t (us ∷ fs) split.1 ends)
+    (followed, (ending_of t, refl, one t, refl))
+split_begun last c t (ts ∷ us ∷ fs) split ends = (split.0, split_begun last c t (us ∷ fs) split.1 ends)
 
-more_in_last : (n c : ℕ) (t : TrailValue) (ts : List TrailValue) → IsFile n ts → length ts ≡ c → c < MAX_TRAILS → n ≡ nodes_of t → IsFile n (ts ++ t ∷ []) × (length (ts ++ t ∷ []) ≡ c + 1)
-more_in_last n c t ts file count room same =
-    let e : length (ts ++ t ∷ []) ≡ length ts + 1 = length-append ts (t ∷ []) in
-    (record { some = omega (arith, e, file.some); few = omega (arith, e, count, room); same = are_more n ts t file.same (sym same) }, omega (arith, e, count))
+more_in_last : (c : ℕ) (e : Ending) (t : TrailValue) (ts : List TrailValue) → IsFile e ts → length ts ≡ c → c < MAX_TRAILS → GoesOn e t
+    → IsFile (ending_of t) (ts ++ t ∷ []) × (length (ts ++ t ∷ []) ≡ c + 1)
+more_in_last c e t ts file count room on =
+    let longer : length (ts ++ t ∷ []) ≡ length ts + 1 = length-append ts (t ∷ []) in
+    (record { few = omega (arith, longer, count, room); line = line_more e ts t file.line on }, omega (arith, longer, count))
 
-followed_more : (ts us : List TrailValue) (t : TrailValue) → IsFollowed ts us → IsFollowed ts (us ++ t ∷ [])
-followed_more ts us t followed = record { nodes = followed.nodes; file = followed.file; reason = λ room same. followed.reason room (were_less followed.nodes us t same) }
+begins_less : (e : Ending) (us : List TrailValue) (t : TrailValue) (last : Ending) → IsLine us last → BeginsOn e (us ++ t ∷ []) → BeginsOn e us
+begins_less e [] t last line on = absurd line
+begins_less e (u ∷ us) t last line on = on
 
-split_more : (n c : ℕ) (t : TrailValue) (fs : List (List TrailValue)) → AreSplit n c fs → 0 < c → c < MAX_TRAILS → n ≡ nodes_of t → AreSplit n (c + 1) (with_more t fs)
-split_more n c t [] split some room same = absurd (omega (arith, split, some))
-split_more n c t (ts ∷ []) split some room same = more_in_last n c t ts split.0 split.1 room same
-split_more n c t (ts ∷ us ∷ []) split some room same = (followed_more ts us t split.0, more_in_last n c t us split.1.0 split.1.1 room same)
-split_more n c t (ts ∷ us ∷ vs ∷ fs) split some room same = (split.0, split_more n c t (us ∷ vs ∷ fs) split.1 some room same)
+followed_more : (ts us : List TrailValue) (t : TrailValue) (last : Ending) → IsLine us last → IsFollowed ts us → IsFollowed ts (us ++ t ∷ [])
+followed_more ts us t last line followed = record {
+  last = followed.last;
+  file = followed.file;
+  reason = λ room on. followed.reason room (begins_less followed.last us t last line on);
+}
+
+same_some : (last : Option Ending) (d e : Ending) → last ≡ Some d → last ≡ Some e → e ≡ d
+same_some last d e is was = same_Some e d (sym was ∙ is)
+
+last_more : (last : Option Ending) (c : ℕ) (e : Ending) (t : TrailValue) (ts : List TrailValue) → AreSplit last c (ts ∷ []) → c < MAX_TRAILS → last ≡ Some e → GoesOn e t
+    → AreSplit (Some (ending_of t)) (c + 1) ((ts ++ t ∷ []) ∷ [])
+last_more last c e t ts split room is on =
+    let more = more_in_last c split.0 t ts split.2 split.3 room (subst (λ d. GoesOn d t) (same_some last split.0 e split.1 is) on) in
+    (ending_of t, refl, more.0, more.1)
+
+split_more : (last : Option Ending) (c : ℕ) (e : Ending) (t : TrailValue) (fs : List (List TrailValue)) → AreSplit last c fs → 0 < c → c < MAX_TRAILS → last ≡ Some e → GoesOn e t
+    → AreSplit (Some (ending_of t)) (c + 1) (with_more t fs)
+split_more last c e t [] split some room is on = absurd (omega (arith, split, some))
+split_more last c e t (ts ∷ []) split some room is on = last_more last c e t ts split room is on
+split_more last c e t (ts ∷ us ∷ []) split some room is on =
+    (followed_more ts us t split.1.0 split.1.2.line split.0, last_more last c e t us split.1 room is on)
+split_more last c e t (ts ∷ us ∷ vs ∷ fs) split some room is on = (split.0, split_more last c e t (us ∷ vs ∷ fs) split.1 some room is on)
 
 -- ---- a trail more
 
-pub kept_begun : (old new : FileList → Type 0) (n c : ℕ) (t : TrailValue) → Became (begun t) old new → (0 < c → c < MAX_TRAILS → n ≡ nodes_of t → ⊥)
-    → TookMore (AreKept old n c) (t ∷ []) (AreKept new (nodes_of t) 1)
-kept_begun old new n c t became ends before is =
-    (begun t is.0, became is.0 is.1, split_begun n c t is.0 is.2 ends, trails_begun t is.0 ∙ ap (λ xs. xs ++ t ∷ []) is.3)
+pub kept_begun : (old new : FileList → Type 0) (last : Option Ending) (c : ℕ) (t : TrailValue) → Became (begun t) old new → Ends last c t
+    → TookMore (AreKept old last c) (t ∷ []) (AreKept new (Some (ending_of t)) 1)
+kept_begun old new last c t became ends before is =
+    (begun t is.0, became is.0 is.1, split_begun last c t is.0 is.2 ends, trails_begun t is.0 ∙ ap (λ xs. xs ++ t ∷ []) is.3)
 
-pub kept_more : (old new : FileList → Type 0) (n c : ℕ) (t : TrailValue) → GotMore t old new → 0 < c → c < MAX_TRAILS → n ≡ nodes_of t
-    → TookMore (AreKept old n c) (t ∷ []) (AreKept new n (c + 1))
-kept_more old new n c t got some room same before is = go is.0 is.1 is.2 is.3
+pub kept_more : (old new : FileList → Type 0) (last : Option Ending) (c : ℕ) (e : Ending) (t : TrailValue) → GotMore t old new → 0 < c → c < MAX_TRAILS → last ≡ Some e → GoesOn e t
+    → TookMore (AreKept old last c) (t ∷ []) (AreKept new (Some (ending_of t)) (c + 1))
+kept_more old new last c e t got some room same on before is = go is.0 is.1 is.2 is.3
   where
-    go : (files : FileList) → old files → AreSplit n c files → trails_of files ≡ before → AreKept new n (c + 1) (before ++ t ∷ [])
-    go [] has split e = absurd (omega (arith, split, some))
-    go (ts ∷ files) has split e =
-        (with_more t (ts ∷ files), got ts files has, split_more n c t (ts ∷ files) split some room same, trails_more t (ts ∷ files) ∙ ap (λ xs. xs ++ t ∷ []) e)
+    go : (files : FileList) → old files → AreSplit last c files → trails_of files ≡ before → AreKept new (Some (ending_of t)) (c + 1) (before ++ t ∷ [])
+    go [] has split is = absurd (omega (arith, split, some))
+    go (ts ∷ files) has split is =
+        (with_more t (ts ∷ files), got ts files has, split_more last c e t (ts ∷ files) split some room same on, trails_more t (ts ∷ files) ∙ ap (λ xs. xs ++ t ∷ []) is)
 
 -- ---- how many there are
 

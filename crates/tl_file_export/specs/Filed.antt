@@ -1,8 +1,10 @@
 -- Trails in files one after another.
-use Rattle.std.specs.Prelude.{◌≡◌, ◌≤◌, ◌<◌, ℕ, List, [], ◌∷◌, ◌++◌, length, None}
+use Rattle.std.specs.Prelude.{◌≡◌, ◌≤◌, ◌<◌, ℕ, List, [], ◌∷◌, ◌++◌, length, Option, Some, None}
 use Rattle.tl_audit.specs.Chains.{AreCleanFiles, trails_of}
 use Rattle.tl_export.specs.Exported.{AreTrailsOf}
+use Rattle.tl_file_export.specs.declared.splitting.Ending.{Ending}
 use Rattle.tl_ledger.specs.Contents.{Contents}
+use Rattle.tl_procedures.specs.Names.{BeginsWith}
 use Rattle.tl_trail.specs.Trails.{TrailValue}
 use Rattle.tl_trail.specs.declared.chain.TheConstants.{MAX_TRAILS}
 
@@ -27,40 +29,53 @@ with_more t (ts ∷ us ∷ files) = ts ∷ with_more t (us ∷ files)
 abbrev pub GotMore : TrailValue → (FileList → Type 0) → (FileList → Type 0) → Type 0
 GotMore t old new = (ts : List TrailValue) (files : FileList) → old (ts ∷ files) → new (with_more t (ts ∷ files))
 
--- how many nodes the tree has
-abbrev pub nodes_of : TrailValue → ℕ
-nodes_of t = length t.parents
+-- what a trail leaves to the next: its number of nodes, and its procedures
+abbrev pub ending_of : TrailValue → Ending
+ending_of t = record { nodes = length t.parents; procedures = t.procedures }
 
--- each trail is of a tree of so many nodes
-abbrev pub AreOf : ℕ → List TrailValue → Type 0
-AreOf nodes [] = Unit {0}
-AreOf nodes (t ∷ ts) = (nodes_of t ≡ nodes) × AreOf nodes ts
+-- no node was appended, and no procedure replaced
+pub record GoesOn (e : Ending) (t : TrailValue) : Type 0 where
+  pub nodes : length t.parents ≡ e.nodes
+  pub procedures : BeginsWith e.procedures t.procedures
 
--- A file has 1 to 256 trails, all of trees of so many nodes.
-pub record IsFile (nodes : ℕ) (ts : List TrailValue) : Type 0 where
-  pub some : 1 ≤ length ts
+-- each of these trails goes on from the one before, the first from e, and this is what the last one leaves
+abbrev pub AreInLine : Ending → List TrailValue → Ending → Type 0
+AreInLine e [] last = e ≡ last
+AreInLine e (t ∷ ts) last = GoesOn e t × AreInLine (ending_of t) ts last
+
+abbrev pub IsLine : List TrailValue → Ending → Type 0
+IsLine [] last = ⊥
+IsLine (t ∷ ts) last = AreInLine (ending_of t) ts last
+
+-- A file has 1 to 256 trails, each of which goes on from the one before. The last one leaves this.
+pub record IsFile (last : Ending) (ts : List TrailValue) : Type 0 where
   pub few : length ts ≤ MAX_TRAILS
-  pub same : AreOf nodes ts
+  pub line : IsLine ts last
 
--- The file is followed by that one where it is full, or where trees have another number of nodes.
+-- the first of these trails goes on from e
+abbrev pub BeginsOn : Ending → List TrailValue → Type 0
+BeginsOn e [] = ⊥
+BeginsOn e (t ∷ ts) = GoesOn e t
+
+-- The file is followed by that one where it is full, or where nodes were appended or procedures replaced.
 pub record IsFollowed (ts us : List TrailValue) : Type 0 where
-  pub nodes : ℕ
-  pub file : IsFile nodes ts
-  pub reason : length ts < MAX_TRAILS → AreOf nodes us → ⊥
+  pub last : Ending
+  pub file : IsFile last ts
+  pub reason : length ts < MAX_TRAILS → BeginsOn last us → ⊥
 
--- each file is followed by the next one, and the last has so many trails, of trees of so many nodes
-abbrev pub AreSplit : ℕ → ℕ → FileList → Type 0
-AreSplit nodes count [] = count ≡ 0
-AreSplit nodes count (ts ∷ []) = IsFile nodes ts × (length ts ≡ count)
-AreSplit nodes count (ts ∷ us ∷ files) = IsFollowed ts us × AreSplit nodes count (us ∷ files)
+-- each file is followed by the next one, and the last has so many trails and leaves this
+abbrev pub AreSplit : Option Ending → ℕ → FileList → Type 0
+AreSplit last count [] = count ≡ 0
+AreSplit last count (ts ∷ []) = (e : Ending) × (last ≡ Some e) × IsFile e ts × (length ts ≡ count)
+AreSplit last count (ts ∷ us ∷ files) = IsFollowed ts us × AreSplit last count (us ∷ files)
 
 -- the files are as few as that allows, whatever the last one has
 abbrev pub AreInFiles : FileList → Type 0
-AreInFiles files = (nodes count : ℕ) × AreSplit nodes count files
+AreInFiles files = (last : Option Ending) × (count : ℕ) × AreSplit last count files
 
--- the trails are those of all these files, of which the last has so many, of trees of so many nodes
-abbrev pub AreKept : (FileList → Type 0) → ℕ → ℕ → List TrailValue → Type 0
-AreKept has nodes count trails = (files : FileList) × has files × AreSplit nodes count files × (trails_of files ≡ trails)
+-- the trails are those of all these files, of which the last has so many and leaves this
+abbrev pub AreKept : (FileList → Type 0) → Option Ending → ℕ → List TrailValue → Type 0
+AreKept has last count trails = (files : FileList) × has files × AreSplit last count files × (trails_of files ≡ trails)
 
 -- so many files, of so many trails in all
 abbrev pub AreSoMany : ℕ → ℕ → FileList → Type 0

@@ -12,7 +12,7 @@ use std::alloc::Global;
 use tl_export::{ExportFault, export};
 
 /// Takes the epochs of a store again, and puts their trails into files, in order. Each file is a chain that an auditor finds clean and that continues
-/// the one before; a new file begins where nodes were appended, or after 256 trails. Faults as of `export`; the trails before a fault were put into
+/// the one before; a new file begins where nodes were appended or procedures replaced, or after 256 trails. Faults as of `export`; the trails before a fault were put into
 /// files.
 pub fn export_files<S: Store, F: TrailFiles + Drop>(
     alloc: Global,

@@ -1,21 +1,50 @@
 // Which file a trail goes into.
 
-ghost use Rattle.std.specs.Prelude.{◌≡◌, ◌<◌, IsTrue};
-ghost use Rattle.tl_file_export.specs.Filed.{nodes_of};
+ghost use Rattle.std.specs.Prelude.{◌≡◌, ◌<◌, ◌↔◌, None, Some, IsTrue, IfOk};
+ghost use Rattle.tl_file_export.specs.Filed.{ending_of, GoesOn};
 ghost use Rattle.tl_trail.specs.declared.chain.TheConstants.{MAX_TRAILS};
 
 use crate::files::TrailFiles;
-use std::alloc::Global;
+use std::alloc::{AllocError, Global};
 use tl_export::{ExportFault, TrailTaker};
+use tl_procedures::Procedures;
 use tl_serial_order::Order;
 use tl_trail::{MAX_TRAILS, Trail};
 
-/// Puts trails into files: into a new one where the tree has another number of nodes than before, or where the file before is full.
+/// What a trail leaves to the next: how many nodes its tree has, and its procedures.
+#[derive(Drop)]
+pub struct Ending {
+    pub nodes: usize,
+    pub procedures: Procedures,
+}
+
+impl Ending {
+    // What the trail leaves.
+    fn of(alloc: Global, trail: &Trail) -> Result<Ending, AllocError>
+        ensures { IfOk result (λ e. e ≡ ending_of trail.now) }
+    {
+        Ok(Ending {
+            nodes: trail.opening().shape().node_count() as usize,
+            procedures: trail.procedures().copy(alloc)?,
+        })
+    }
+
+    // Whether the trail goes on from it, with no node appended and no procedure replaced.
+    fn is_continued(&self, trail: &Trail) -> bool
+        ensures { IsTrue result ↔ GoesOn self.now trail.now }
+    {
+        trail.opening().shape().node_count() as usize == self.nodes
+            && trail.procedures().begin_with(&self.procedures)
+    }
+}
+
+/// Puts trails into files: into a new one where nodes were appended or procedures replaced, or where the file before is full.
 #[derive(Drop)]
 pub struct Splitting<F: TrailFiles> {
     pub kept: F,
-    // Of the last file: how many nodes its trees have, and how many trails it has.
-    pub nodes: u64,
+    // What the last trail leaves.
+    pub last: Option<Ending>,
+    // How many trails the last file has.
     pub count: usize,
 }
 
@@ -26,42 +55,42 @@ impl<F: TrailFiles> Splitting<F> {
     {
         Splitting {
             kept,
-            nodes: 0,
+            last: None,
             count: 0,
         }
     }
 
-    // Whether a trail of a tree of so many nodes goes into the last file.
-    fn goes_on(&self, nodes: u64) -> bool
-        ensures yes { IsTrue result → (0 < self.now.count) × (self.now.count < MAX_TRAILS) × (self.now.nodes ≡ nodes) }
-        ensures no { 0 < self.now.count → self.now.count < MAX_TRAILS → self.now.nodes ≡ nodes → IsTrue result }
+    // Whether a trail goes into the last file.
+    fn goes_on(&self, trail: &Trail) -> bool
+        ensures yes { IsTrue result → (0 < self.now.count) × (self.now.count < MAX_TRAILS) × (e : Ending) × (self.now.last ≡ Some e) × GoesOn e trail.now }
+        ensures no { (e : Ending) → 0 < self.now.count → self.now.count < MAX_TRAILS → self.now.last ≡ Some e → GoesOn e trail.now → IsTrue result }
     {
-        self.count > 0 && self.count < MAX_TRAILS && self.nodes == nodes
+        if self.count == 0 || self.count >= MAX_TRAILS {
+            return false;
+        }
+        match &self.last {
+            Some(last) => last.is_continued(trail),
+            None => false,
+        }
     }
-}
-
-// How many nodes a trail's tree has.
-fn count_nodes(trail: &Trail) -> u64
-    ensures { result ≡ nodes_of trail.now }
-{
-    u64::from(trail.opening().shape().node_count())
 }
 
 impl<F: TrailFiles> TrailTaker for Splitting<F> {
     ghost use Rattle.tl_file_export.specs.Filed.{AreKept};
 
-    ghost taken = { λ s. AreKept (F.files s.kept) s.nodes s.count };
+    ghost taken = { λ s. AreKept (F.files s.kept) s.last s.count };
 
     fn take(&mut self, alloc: Global, trail: &Trail, order: &Order) -> Result<(), ExportFault> {
-        let nodes = count_nodes(trail);
-        if self.goes_on(nodes) {
+        let ending = Ending::of(alloc, trail)?;
+        if self.goes_on(trail) {
             self.kept.add(alloc, trail, order)?;
             self.count += 1;
+            self.last = Some(ending);
             return Ok(());
         }
         self.kept.begin(alloc, trail, order)?;
         self.count = 1;
-        self.nodes = nodes;
+        self.last = Some(ending);
         Ok(())
     }
 }

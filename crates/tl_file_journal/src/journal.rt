@@ -9,9 +9,12 @@ use sqlite_trees::store::Store;
 use std::alloc::Global;
 use std::sync::Wait;
 use tl_file_snapshot::{SnapshotFault, write_snapshot};
+use tl_generations::Legacy;
 use tl_journal::{JournalParts, LedgerJournal};
+use tl_procedures::Procedures;
 use tl_server::{Claim, CopyRefusal, Journal, NoJournal, Unstored};
 use tl_store::StoreFault;
+use tl_store_commands::end_store;
 use tl_workers::Engine;
 
 /// The journal of a store in a file. As a type of its own it hides the types of the file: what serves is proved without them.
@@ -38,12 +41,17 @@ fn refusal_of(fault: SnapshotFault) -> CopyRefusal
 
 /// A journal that can be ended.
 pub trait End {
-    /// Stores what is left, and takes it into the file.
-    fn end(self, rt: &impl Wait, alloc: Global) -> Result<(), StoreFault>;
+    /// Stores what is left, and takes it into the file. 1014 if the store doesn't have then what the last engine left, where that has closed.
+    fn end(self, rt: &impl Wait, alloc: Global, left: Option<&Legacy>) -> Result<(), StoreFault>;
 }
 
 impl End for NoJournal {
-    fn end(self, _rt: &impl Wait, _alloc: Global) -> Result<(), StoreFault> {
+    fn end(
+        self,
+        _rt: &impl Wait,
+        _alloc: Global,
+        _left: Option<&Legacy>,
+    ) -> Result<(), StoreFault> {
         Ok(())
     }
 }
@@ -84,6 +92,10 @@ impl Journal for FileJournal {
         self.ledger.grow(rt, alloc, parents, epoch);
     }
 
+    fn replace(&self, rt: &impl Wait, alloc: Global, others: &Procedures) {
+        self.ledger.replace(rt, alloc, others);
+    }
+
     fn settle(&self, rt: &impl Wait, alloc: Global) -> Result<(), Unstored> {
         self.ledger.settle(rt, alloc)
     }
@@ -103,16 +115,17 @@ impl Journal for FileJournal {
 }
 
 impl End for FileJournal {
-    fn end(self, rt: &impl Wait, alloc: Global) -> Result<(), StoreFault> {
-        end_ledger(rt, alloc, self.ledger)
+    fn end(self, rt: &impl Wait, alloc: Global, left: Option<&Legacy>) -> Result<(), StoreFault> {
+        end_ledger(rt, alloc, self.ledger, left)
     }
 }
 
-// Stores what is left, and takes it into the file.
+// Stores what is left, compares it with what the last engine left, and takes it into the file.
 fn end_ledger(
     rt: &impl Wait,
     alloc: Global,
     journal: LedgerJournal<FileStore<File>>,
+    left: Option<&Legacy>,
 ) -> Result<(), StoreFault> {
     let settled = journal.settle(rt, alloc);
     let JournalParts {
@@ -126,7 +139,16 @@ fn end_ledger(
     let (Ok(()), Some(ledger)) = (settled, ledger) else {
         return Err(StoreFault::Memory);
     };
-    let mut store = ledger.store;
+    let Some(left) = left else {
+        return take_in(ledger.store);
+    };
+    let ledger = end_store(alloc, ledger, left.tree(), left.procedures())?;
+    take_in(ledger.store)
+}
+
+// Takes all of a store into its file.
+fn take_in(store: FileStore<File>) -> Result<(), StoreFault> {
+    let mut store = store;
     match store.checkpoint() {
         Ok(()) => Ok(()),
         Err(name) => Err(StoreFault::of_disk(name)),

@@ -1,6 +1,6 @@
 -- Generations joined to one sequence of calls.
 use Rattle.std.proofs.Common.{◌≡◌, ℕ, zero, suc, ◌+◌, ◌-◌, ℤ, List, [], ◌∷◌, ◌++◌, length, map, refl, sym, ap, ◌∙◌, subst, append_assoc, arith}
-use Rattle.std.specs.Prelude.{Some, slice_get, replicate, Result, Ok, Err, IfOk, OnErr}
+use Rattle.std.specs.Prelude.{Some, slice_get, replicate, Result, Ok, Err, IfOk, OnOk, OnErr}
 use Rattle.std.proofs.lemmas.List.{append-nil, length-append, replicate-append-replicate}
 use Rattle.std.proofs.lemmas.Option.{none-some, same_Some}
 use Rattle.tl_tree.specs.Records.{Records}
@@ -11,7 +11,7 @@ use Rattle.tl_tree_locking.specs.History.{records_now}
 use Rattle.tl_tree_locking.specs.World.{World, reply_of}
 use Rattle.tl_tree_locking.specs.Epochs.{run_each, joined, joined_replies, AgreeEach}
 use Rattle.tl_tree_locking.proofs.EpochsJoined.{epochs-serial}
-use Rattle.tl_procedures.specs.Names.{Named}
+use Rattle.tl_procedures.specs.Names.{Named, with_code, replaced}
 use Rattle.tl_serial.proofs.OrderOfCore.{order_agrees}
 use Rattle.tl_table.specs.Epochs.{EpochValue, seen}
 use Rattle.tl_table.specs.Tables.{epoch_world, records_after, procedures_after, InLine, IsChain}
@@ -19,7 +19,7 @@ use Rattle.tl_table.specs.Chains.{epoch_order}
 use Rattle.tl_table.proofs.Lines.{line_follows, line_rests, records_left}
 use Rattle.tl_generations.specs.Growth.{with_zeros, zero_record}
 use Rattle.tl_generations.specs.declared.growth.GrowthFault.{GrowthFault}
-use Rattle.tl_generations.specs.Generations.{LegacyValue, GenerationValue, IsGrown, IsSuccession, TakesUp, TakesUpFirst, grown, legacy_after, left_by, AreGenerations, legacy_of, epochs_of, added_by, calls_of, replies_of, run_generations, AreSerialFrom, IsSerialFrom}
+use Rattle.tl_generations.specs.Generations.{LegacyValue, GenerationValue, IsGrown, IsSuccession, TakesUp, TakesUpFirst, IsReplaced, grown, with_replaced, legacy_after, left_by, start_of, AreGenerations, legacy_of, epochs_of, added_by, calls_of, replies_of, run_generations, AreSerialFrom, IsSerialFrom}
 
 -- ---- one generation
 
@@ -57,7 +57,7 @@ replies_join (e ∷ es) more =
 pub all_serial : (l : LegacyValue) (gs : List GenerationValue) → AreGenerations l gs → AreSerialFrom l gs
 all_serial l [] h = record { tree = refl; replies = refl }
 all_serial l (g ∷ gs) h =
-    let before = grown l g.added in
+    let before = start_of l g in
     let own = one_serial before g.epochs h.0 h.1 in
     let later = all_serial (left_by l g) gs h.2 in
     record {
@@ -86,6 +86,10 @@ records_forgotten : (l : LegacyValue) (a b : Records) (es : List EpochValue) →
 records_forgotten l a b [] takes = absurd takes
 records_forgotten l a b (e ∷ es) takes = refl
 
+procedures_forgotten : (l : LegacyValue) (a b : List Named) (es : List EpochValue) → TakesUpFirst l es → procedures_after a es ≡ procedures_after b es
+procedures_forgotten l a b [] takes = absurd takes
+procedures_forgotten l a b (e ∷ es) takes = refl
+
 first_on : (l : LegacyValue) (es more : List EpochValue) → TakesUpFirst l es → TakesUpFirst l (es ++ more)
 first_on l [] more takes = absurd takes
 first_on l (e ∷ es) more takes = takes
@@ -109,14 +113,15 @@ grown_twice l ps qs =
 zeros_dropped : (l : LegacyValue) (gs : List GenerationValue) → AreGenerations l gs → records_after (with_zeros (length (added_by gs)) l.records) (epochs_of gs) ≡ records_after l.records (epochs_of gs)
 zeros_dropped l [] h = no_zeros l.records
 zeros_dropped l (g ∷ gs) h =
-    records_forgotten (grown l g.added) (with_zeros (length (g.added ++ added_by gs)) l.records) l.records (g.epochs ++ epochs_of gs)
-    (first_on (grown l g.added) g.epochs (epochs_of gs) h.1)
+    let before = start_of l g in
+    records_forgotten before (with_zeros (length (g.added ++ added_by gs)) l.records) l.records (g.epochs ++ epochs_of gs)
+    (first_on before g.epochs (epochs_of gs) h.1)
 
 pub all_left : (l : LegacyValue) (gs : List GenerationValue) → AreGenerations l gs → legacy_of l gs ≡ legacy_after (grown l (added_by gs)) (epochs_of gs)
 all_left l [] h = sym (nothing_grown l)
 all_left l (g ∷ gs) h =
     let more = added_by gs in
-    let before = grown l g.added in
+    let before = start_of l g in
     let own = left_by l g in
     let all = g.epochs ++ epochs_of gs in
     let last = with_zeros (length (g.added ++ more)) l.records in
@@ -125,7 +130,8 @@ all_left l (g ∷ gs) h =
     zeros_dropped own gs h.2
     ∙ records_on before.records g.epochs (epochs_of gs)
     ∙ records_forgotten before before.records last all (first_on before g.epochs (epochs_of gs) h.1) in
-    let procedures = procedures_on l.procedures g.epochs (epochs_of gs) in
+    let procedures = procedures_on before.procedures g.epochs (epochs_of gs)
+    ∙ procedures_forgotten before before.procedures l.procedures all (first_on before g.epochs (epochs_of gs) h.1) in
     all_left own gs h.2 ∙ (λ i. legacy (parents i) (records i) (procedures i))
 
 -- ---- where nothing was appended
@@ -159,14 +165,16 @@ runs_joined (g ∷ gs) t e =
     ∙ sym (run_both (calls_of g.epochs) (calls_of (epochs_of gs)) t)
     ∙ ap (λ cs. run_each cs t) (sym (calls_join g.epochs (epochs_of gs)))
 
-pub left_joined : (l : LegacyValue) (gs : List GenerationValue) → added_by gs ≡ [] → legacy_of l gs ≡ legacy_after l (epochs_of gs)
-left_joined l [] e = refl
-left_joined l (g ∷ gs) e =
+pub left_joined : (l : LegacyValue) (gs : List GenerationValue) → AreGenerations l gs → added_by gs ≡ [] → legacy_of l gs ≡ legacy_after l (epochs_of gs)
+left_joined l [] h e = refl
+left_joined l (g ∷ gs) h e =
     let none = both_nil g.added (added_by gs) e in
+    let before = start_of l g in
     let records = records_on l.records g.epochs (epochs_of gs) in
-    let procedures = procedures_on l.procedures g.epochs (epochs_of gs) in
-    left_joined (left_by l g) gs none.1
-    ∙ ap (λ m. legacy_after (legacy_after m g.epochs) (epochs_of gs)) (ap (grown l) none.0 ∙ nothing_grown l)
+    let procedures = procedures_on before.procedures g.epochs (epochs_of gs)
+    ∙ procedures_forgotten before before.procedures l.procedures (g.epochs ++ epochs_of gs) (first_on before g.epochs (epochs_of gs) h.1) in
+    left_joined (left_by l g) gs h.2 none.1
+    ∙ ap (λ m. legacy_after (legacy_after (with_replaced m g.others) g.epochs) (epochs_of gs)) (ap (grown l) none.0 ∙ nothing_grown l)
     ∙ (λ i. legacy l.parents (records i) (procedures i))
 
 pub serial_joined : (l : LegacyValue) (gs : List GenerationValue) → AreGenerations l gs → added_by gs ≡ []
@@ -175,13 +183,13 @@ serial_joined l gs h e =
     let s = all_serial l gs h in
     let same = runs_joined gs l.records e in
     record {
-      tree = sym (ap (λ r. r.tree) same) ∙ s.tree ∙ ap (λ m. m.records) (left_joined l gs e);
+      tree = sym (ap (λ r. r.tree) same) ∙ s.tree ∙ ap (λ m. m.records) (left_joined l gs h e);
       replies = sym (ap (λ r. r.replies) same) ∙ s.replies;
     }
 
 -- ---- one more
 
-pub one_more : (l : LegacyValue) (gs : List GenerationValue) (g : GenerationValue) → AreGenerations l gs → IsChain g.epochs → TakesUpFirst (grown (legacy_of l gs) g.added) g.epochs
+pub one_more : (l : LegacyValue) (gs : List GenerationValue) (g : GenerationValue) → AreGenerations l gs → IsChain g.epochs → TakesUpFirst (start_of (legacy_of l gs) g) g.epochs
     → AreGenerations l (gs ++ g ∷ [])
 one_more l [] g h chain takes = (chain, takes, tt)
 one_more l (f ∷ gs) g h chain takes = (h.0, h.1, one_more (left_by l f) gs g h.2 chain takes)
@@ -193,7 +201,7 @@ one_more_left l (f ∷ gs) g = one_more_left (left_by l f) gs g
 -- ---- a succession
 
 pub starts : (first last : LegacyValue) → last ≡ first → IsSuccession first last
-starts first last same = record { tables = []; added = []; generations = tt; left = nothing_grown first ∙ sym same }
+starts first last same = record { tables = []; added = []; others = []; generations = tt; left = nothing_grown first ∙ sym same }
 
 pub grows : (first last new : LegacyValue) (integers : List ℤ) (r : Result ℕ GrowthFault) → IsSuccession first last
     → IfOk r (λ n. IsGrown last integers n new) → OnErr r (new ≡ last) → IsSuccession first new
@@ -201,10 +209,32 @@ grows first last new integers (Ok n) was h same =
     record {
       tables = was.tables;
       added = was.added ++ h.added;
+      others = was.others;
       generations = was.generations;
-      left = sym (grown_twice (legacy_of first was.tables) was.added h.added) ∙ ap (λ (l : LegacyValue). grown l h.added) was.left ∙ sym h.same;
+      left =
+          ap (λ (l : LegacyValue). with_replaced l was.others) (sym (grown_twice (legacy_of first was.tables) was.added h.added))
+          ∙ ap (λ (l : LegacyValue). grown l h.added) was.left ∙ sym h.same;
     }
 grows first last new integers (Err e) was h same = subst (λ (l : LegacyValue). IsSuccession first l) (sym same) was
+
+replaced_on : (ps first more : List Named) → replaced (replaced ps first) more ≡ replaced ps (first ++ more)
+replaced_on ps [] more = refl
+replaced_on ps (p ∷ first) more = replaced_on (map (with_code p) ps) first more
+
+pub replaces : {A E : Type 0} (first last new : LegacyValue) (others : List Named) (r : Result A E) → IsSuccession first last
+    → OnOk r (IsReplaced last others new) → OnErr r (new ≡ last) → IsSuccession first new
+replaces first last new others (Ok x) was h same =
+    let before = grown (legacy_of first was.tables) was.added in
+    record {
+      tables = was.tables;
+      added = was.added;
+      others = was.others ++ others;
+      generations = was.generations;
+      left =
+          (λ i. legacy before.parents before.records (sym (replaced_on before.procedures was.others others) i))
+          ∙ ap (λ (l : LegacyValue). with_replaced l others) was.left ∙ sym h.same;
+    }
+replaces first last new others (Err e) was h same = subst (λ (l : LegacyValue). IsSuccession first l) (sym same) was
 
 -- ---- what the last epoch says of it
 

@@ -1,9 +1,9 @@
--- A sequence of closed tables. Each starts from what its predecessor left, possibly with nodes appended to the tree.
+-- A sequence of closed tables. Each starts from what its predecessor left, possibly with nodes appended to the tree and with procedures replaced.
 use Rattle.std.specs.Prelude.{◌≡◌, ℕ, ℤ, List, [], ◌∷◌, ◌++◌, length, map}
 use Rattle.tl_tree.specs.Records.{Records}
 use Rattle.tl_tree_locking.specs.Alone.{Outcome, SerialOutcome}
 use Rattle.tl_tree_locking.specs.Epochs.{run_each, joined, joined_replies}
-use Rattle.tl_procedures.specs.Names.{Named, BeginsWith}
+use Rattle.tl_procedures.specs.Names.{Named, BeginsWith, AreKnown, replaced}
 use Rattle.tl_table.specs.Epochs.{EpochValue, seen}
 use Rattle.tl_table.specs.Tables.{epoch_world, records_after, procedures_after, IsChain}
 use Rattle.tl_table.specs.Chains.{epoch_order}
@@ -18,6 +18,15 @@ pub record LegacyValue : Type 0 where
 -- the same with appended nodes, which have these parents and records of zeros
 abbrev pub grown : LegacyValue → List ℕ → LegacyValue
 grown l added = record { parents = l.parents ++ added; records = with_zeros (length added) l.records; procedures = l.procedures }
+
+-- the same with these procedures in the place of those with their names
+abbrev pub with_replaced : LegacyValue → List Named → LegacyValue
+with_replaced l others = record { parents = l.parents; records = l.records; procedures = replaced l.procedures others }
+
+-- These procedures took the place of those with their names.
+pub record IsReplaced (old : LegacyValue) (others : List Named) (new : LegacyValue) : Type 0 where
+  pub known : AreKnown old.procedures others
+  pub same : new ≡ with_replaced old others
 
 -- Nodes with these parents were appended; the first of them has the number `first`.
 pub record IsGrown (old : LegacyValue) (integers : List ℤ) (first : ℕ) (new : LegacyValue) : Type 0 where
@@ -42,19 +51,26 @@ abbrev pub legacy_after : LegacyValue → List EpochValue → LegacyValue
 legacy_after l es =
     record { parents = l.parents; records = records_after l.records es; procedures = procedures_after l.procedures es }
 
--- a closed table: the parents of the nodes that were appended before it, and its epochs
+-- a closed table: the parents of the nodes that were appended before it, the procedures that took the place of others before it,
+-- and its epochs
 pub record GenerationValue : Type 0 where
   pub added : List ℕ
+  pub others : List Named
   pub epochs : List EpochValue
+
+-- what the table starts from, if the one before it left l
+abbrev pub start_of : LegacyValue → GenerationValue → LegacyValue
+start_of l g = with_replaced (grown l g.added) g.others
 
 -- the legacy that the table leaves
 abbrev pub left_by : LegacyValue → GenerationValue → LegacyValue
-left_by l g = legacy_after (grown l g.added) g.epochs
+left_by l g = legacy_after (start_of l g) g.epochs
 
--- Each closed table starts from what its predecessor left with its own appended nodes; the first one starts from l with its appended nodes.
+-- Each closed table starts from what its predecessor left, with its own appended nodes and replaced procedures; the first one
+-- starts from l with its own.
 abbrev pub AreGenerations : LegacyValue → List GenerationValue → Type 0
 AreGenerations l [] = Unit {0}
-AreGenerations l (g ∷ gs) = IsChain g.epochs × TakesUpFirst (grown l g.added) g.epochs × AreGenerations (left_by l g) gs
+AreGenerations l (g ∷ gs) = IsChain g.epochs × TakesUpFirst (start_of l g) g.epochs × AreGenerations (left_by l g) gs
 
 -- the legacy that the last table leaves
 abbrev pub legacy_of : LegacyValue → List GenerationValue → LegacyValue
@@ -107,12 +123,13 @@ pub record SuccessionValue : Type 0 where
   pub first : LegacyValue
   pub last : LegacyValue
 
--- closed tables lead from the first legacy to the last; at the end, nodes may have been appended once more
+-- closed tables lead from the first legacy to the last; at the end, nodes may have been appended and procedures replaced once more
 pub record IsSuccession (first last : LegacyValue) : Type 0 where
   pub tables : List GenerationValue
   pub added : List ℕ
+  pub others : List Named
   pub generations : AreGenerations first tables
-  pub left : grown (legacy_of first tables) added ≡ last
+  pub left : with_replaced (grown (legacy_of first tables) added) others ≡ last
 
 -- a table with these epochs started from the last legacy, and the new last legacy is what they leave
 abbrev pub TakesTurn : SuccessionValue → List EpochValue → SuccessionValue → Type 0

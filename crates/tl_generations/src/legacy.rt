@@ -2,7 +2,9 @@
 
 ghost use Rattle.std.specs.Prelude.{◌≡◌, ◌≢◌, ◌↔◌, ◌≤◌, ◌+◌, ℕ, List, [], length, map, unsigned_abs, IsTrue, IfOk, OnOk, IfErr, OnErr};
 ghost use Rattle.tl_table.specs.Tables.{IsChain};
-ghost use Rattle.tl_generations.specs.Generations.{LegacyValue, IsGrown, TakesUp, TakesUpFirst, legacy_after};
+ghost use Rattle.tl_procedures.specs.Names.{AreKnown};
+ghost use Rattle.tl_procedures.specs.declared.fault.ReplacingFault.TheVariants as replacing;
+ghost use Rattle.tl_generations.specs.Generations.{LegacyValue, IsGrown, IsReplaced, TakesUp, TakesUpFirst, legacy_after};
 ghost use Rattle.tl_generations.specs.Growth.{CanGrow, IsGrowthFault};
 ghost use Rattle.tl_generations.specs.declared.growth.GrowthFault.TheVariants as growth;
 
@@ -11,7 +13,7 @@ use std::alloc::{AllocError, Global};
 use std::marker::Model;
 use tl_core::{Core, CoreFault};
 use tl_history::MAX_EVENTS;
-use tl_procedures::Procedures;
+use tl_procedures::{Procedures, ReplacingFault};
 use tl_table::Closed;
 use tl_tree::{Record, Tree};
 
@@ -92,6 +94,13 @@ impl Legacy {
         &self.tree
     }
 
+    /// The procedures.
+    pub fn procedures(&self) -> &Procedures
+        ensures { result.now ≡ self.now.procedures }
+    {
+        &self.procedures
+    }
+
     /// Whether nodes of these parents can be appended to the tree, which has at most `limit` nodes then. The faults are those of
     /// `grow`, but 190.
     pub fn check_growth(&self, parents: &[i64], limit: u16) -> Result<(), GrowthFault>
@@ -120,6 +129,17 @@ impl Legacy {
         let tree = grown_tree(alloc, &self.tree, parents, limit)?;
         self.tree = tree;
         Ok(first)
+    }
+
+    /// Puts the code of each of `others` in the place of the procedure with its name, in their order; the tree stays. 601 if there is no
+    /// procedure of one of the names; 690 if memory is refused. After a fault nothing has changed.
+    pub fn replace(&mut self, alloc: Global, others: &Procedures) -> Result<(), ReplacingFault>
+        ensures replaced { OnOk result (IsReplaced self.old others.now self.new) }
+        ensures fault { IfErr result (λ e. e ≡ replacing.NoProcedure → AreKnown self.old.procedures others.now → ⊥) }
+        ensures memory { IfErr result (λ e. e ≡ replacing.Memory → AreKnown self.old.procedures others.now) }
+        ensures err { OnErr result (self.new ≡ self.old) }
+    {
+        self.procedures.replace_all(alloc, others)
     }
 
     /// A core that takes this up. 690 if memory is refused.

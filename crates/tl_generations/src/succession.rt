@@ -2,7 +2,9 @@
 
 ghost use Rattle.std.specs.Prelude.{◌≡◌, ◌≢◌, ◌≤◌, ◌+◌, ℕ, List, length, map, unsigned_abs, true, false, Ok, IfOk, OnOk, IfErr, OnErr};
 ghost use Rattle.tl_table.specs.Tables.{IsChain};
-ghost use Rattle.tl_generations.specs.Generations.{SuccessionValue, IsGrown, TakesUpFirst, TakesTurn, IsSuccession};
+ghost use Rattle.tl_procedures.specs.Names.{AreKnown};
+ghost use Rattle.tl_procedures.specs.declared.fault.ReplacingFault.TheVariants as replacing;
+ghost use Rattle.tl_generations.specs.Generations.{SuccessionValue, IsGrown, IsReplaced, TakesUpFirst, TakesTurn, IsSuccession};
 ghost use Rattle.tl_generations.specs.Growth.{CanGrow, IsGrowthFault};
 ghost use Rattle.tl_generations.specs.declared.growth.GrowthFault.TheVariants as growth;
 
@@ -11,12 +13,14 @@ use crate::legacy::Legacy;
 use std::alloc::{AllocError, Global};
 use std::marker::Model;
 use tl_core::Core;
+use tl_procedures::{Procedures, ReplacingFault};
 use tl_table::Closed;
 
-/// What the first table began with, and what the last closed table left, with the nodes that were appended since.
+/// What the first table began with, and what the last closed table left, with the nodes that were appended and the procedures that were
+/// replaced since.
 ///
 /// The type guarantees that closed tables lead from the one to the other, each of which took up what the one before it left, with the
-/// nodes that were appended then.
+/// nodes that were appended and the procedures that were replaced then.
 #[derive(Debug, Drop)]
 pub struct Succession {
     first: Legacy,
@@ -44,7 +48,7 @@ impl Succession {
         Ok(Succession { first, last })
     }
 
-    /// What the last closed table left, with the nodes that were appended since.
+    /// What the last closed table left, with the nodes that were appended and the procedures that were replaced since.
     pub fn last(&self) -> &Legacy
         ensures same { result.now ≡ self.now.last }
         ensures reached { IsSuccession self.now.first self.now.last }
@@ -90,5 +94,17 @@ impl Succession {
         ensures err { OnErr result (self.new ≡ self.old) }
     {
         self.last.grow(alloc, parents, limit)
+    }
+
+    /// Puts the code of each of `others` in the place of the procedure with its name, for the next table. The faults are those of
+    /// `Legacy::replace`, after which nothing has changed.
+    pub fn replace(&mut self, alloc: Global, others: &Procedures) -> Result<(), ReplacingFault>
+        ensures replaced { OnOk result (IsReplaced self.old.last others.now self.new.last) }
+        ensures fault { IfErr result (λ e. e ≡ replacing.NoProcedure → AreKnown self.old.last.procedures others.now → ⊥) }
+        ensures memory { IfErr result (λ e. e ≡ replacing.Memory → AreKnown self.old.last.procedures others.now) }
+        ensures first { self.new.first ≡ self.old.first }
+        ensures err { OnErr result (self.new ≡ self.old) }
+    {
+        self.last.replace(alloc, others)
     }
 }

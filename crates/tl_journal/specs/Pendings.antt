@@ -1,6 +1,7 @@
 -- The pending rows after the news of an epoch were added to them.
 use Rattle.std.specs.Prelude.{◌≡◌, ℕ, ◌+◌, ◌-◌, ◌^◌, min, ℤ, pos, List, [], ◌∷◌, ◌++◌, map, length, replicate, Option, Some, None, option_map}
 use Rattle.tl_width.specs.Fields.{field_count}
+use Rattle.tl_procedures.specs.Names.{Named}
 use Rattle.tl_tree.specs.Records.{Records}
 use Rattle.tl_news.specs.declared.mark.Mark.{Mark}
 use Rattle.tl_news.specs.declared.news.Answer.{Answer}
@@ -129,6 +130,13 @@ pub record IsEmpty (news : News) : Type 0 where
 -- a node with this parent, which exists from the start of this epoch on
 abbrev pub node_of : ℤ → ℤ → NodeRow
 node_of epoch parent = record { parent = parent; epoch = epoch }
+
+-- these procedures took the place of those with their names, at the start of the epoch that isn't over
+pub record Replaces (others : List Named) (old new : Pending) : Type 0 where
+  pub procedures : map procedure_form new.news.procedures.items ≡ map procedure_form old.news.procedures.items ++ map named_form others
+  pub news : new.news ≡ record old.news { procedures = new.news.procedures }
+  pub rows : new.rows ≡ record old.rows { procedures = more old.rows.procedures (length others) }
+  pub rest : new ≡ record old { news = new.news; rows = new.rows }
 
 -- nodes with these parents were appended, with records of zeros, at the start of the epoch that isn't over
 pub record Grows (parents : List ℤ) (old new : Pending) : Type 0 where

@@ -12,6 +12,7 @@ use std::sync::{Condvar, Mutex, Wait};
 use tl_keys::KeyIndex;
 use tl_ledger::{Ledger, Marks, News};
 use tl_news::news_since;
+use tl_procedures::Procedures;
 use tl_server::{Claim, CopyRefusal, Journal, Unstored};
 use tl_tree::Record;
 use tl_workers::Engine;
@@ -243,6 +244,13 @@ impl<S: Store + Drop> Journal for LedgerJournal<S> {
     fn grow(&self, rt: &impl Wait, _alloc: Global, parents: &[i64], _epoch: u32) {
         let mut pending = self.pending.lock(rt);
         if pending.grow(parents).is_err() {
+            pending.lose();
+        }
+    }
+
+    fn replace(&self, rt: &impl Wait, alloc: Global, others: &Procedures) {
+        let mut pending = self.pending.lock(rt);
+        if pending.replace(alloc, others).is_err() {
             pending.lose();
         }
     }

@@ -7,8 +7,8 @@ ghost use Rattle.tl_keys.specs.Keys.{recall};
 ghost use Rattle.tl_news.specs.News.{asked};
 ghost use Rattle.tl_journal.specs.Claims.{key_of, LearnsUnder, Learns, kept_of};
 ghost use Rattle.tl_journal.specs.Changes.{Leads};
-ghost use Rattle.tl_journal.specs.Rows.{procedure_form, turn_form, reply_form};
-ghost use Rattle.tl_journal.specs.Pendings.{column, more, counted, seal_after, new_form, admitted_in, admitted_at, admitted_from, turn_forms, answer_form, node_of, start, Adds, AddsAll, Grows, IsEmpty};
+ghost use Rattle.tl_journal.specs.Rows.{named_form, procedure_form, turn_form, reply_form};
+ghost use Rattle.tl_journal.specs.Pendings.{column, more, counted, seal_after, new_form, admitted_in, admitted_at, admitted_from, turn_forms, answer_form, node_of, start, Adds, AddsAll, Replaces, Grows, IsEmpty};
 
 use crate::changes::changed;
 use crate::claims;
@@ -21,6 +21,7 @@ use tl_ledger::{
     CallRow, ChangedRecord, Marks, News, NodeRow, ProcedureRow, ReplyRow, SealRow, TurnRow,
 };
 use tl_news::{Answer, EpochNews, Mark, NewCall, NewProcedure, TableNews};
+use tl_procedures::Procedures;
 use tl_tree::{FIELD_COUNT, Record};
 
 /// No news.
@@ -91,6 +92,21 @@ fn push_procedures(
 {
     for new in procedures {
         rows.push(procedure_row(alloc, new.name.as_str(), &new.procedure)?)?;
+    }
+    Ok(())
+}
+
+// Adds the rows of all these procedures.
+#[tactic(auto, using(std::proofs::lemmas::List::take_all))]
+fn push_all(
+    alloc: Global,
+    rows: &mut Vec<ProcedureRow>,
+    others: &Procedures,
+) -> Result<(), AllocError>
+    ensures { OnOk result (map procedure_form rows.new.items ≡ map procedure_form rows.old.items ++ map named_form others.now) }
+{
+    for number in 0..others.len() as u32 {
+        rows.push(procedure_row(alloc, others.name(number), others.get(number))?)?;
     }
     Ok(())
 }
@@ -401,6 +417,16 @@ impl Pending {
         news.seals.push(seal_after(&self.rows))?;
         self.rows.seals = more(self.rows.seals, 1);
         self.records = records;
+        Ok(())
+    }
+
+    /// Takes over that these procedures were put in the place of those with their names. If memory is refused, only part of it may have been
+    /// taken over.
+    pub(crate) fn replace(&mut self, alloc: Global, others: &Procedures) -> Result<(), AllocError>
+        ensures { OnOk result (Replaces others.now self.old self.new) }
+    {
+        push_all(alloc, &mut self.news.procedures, others)?;
+        self.rows.procedures = more(self.rows.procedures, others.len());
         Ok(())
     }
 

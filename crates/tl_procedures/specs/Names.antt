@@ -1,5 +1,5 @@
 -- Named procedures, and which names may be given.
-use Rattle.std.specs.Prelude.{◌≡◌, ℕ, Bool, List, [], ◌∷◌, ◌++◌, length, Option, Some, None, if◌then◌else◌, nat_lt, nat_le, position, ◌&&◌, ◌||◌, ◌==◌}
+use Rattle.std.specs.Prelude.{◌≡◌, ◌≢◌, ℕ, Bool, List, [], ◌∷◌, ◌++◌, ◌<◌, All, Contains, get_or, map, length, Option, Some, None, if◌then◌else◌, nat_lt, nat_le, position, ◌&&◌, ◌||◌, ◌==◌}
 use Rattle.std.specs.Char.{is_ascii_alphanumeric}
 use Rattle.std.specs.List.{list_all}
 use Rattle.std.specs.Str.{bytes_eq}
@@ -55,3 +55,67 @@ pub record IsFirstRefused (before more : List Named) (f : NamingFault) : Type 0 
   pub split : more ≡ first ++ one ∷ rest
   pub free : AreFreeAfter before first
   pub refused : naming_refusal (before ++ first) one.name ≡ Some f
+
+-- ---- procedures in the place of others
+
+-- the procedure, with the code of p if it has p's name
+abbrev pub with_code : Named → Named → Named
+with_code p q = record { name = q.name; code = if bytes_eq q.name p.name then p.code else q.code }
+
+-- the procedures after each of `others`, one after another, has taken the place of the one with its name
+abbrev pub replaced : List Named → List Named → List Named
+replaced procedures [] = procedures
+replaced procedures (p ∷ ps) = replaced (map (with_code p) procedures) ps
+
+-- a procedure is put in the place of the one with its name, or comes last if there is none
+abbrev pub put_at : Option ℕ → List Named → Named → List Named
+put_at None procedures p = procedures ++ p ∷ []
+put_at (Some number) procedures p = map (with_code p) procedures
+
+abbrev pub put : List Named → Named → List Named
+put procedures p = put_at (number_of procedures p.name) procedures p
+
+-- these procedures were put one after another
+abbrev pub latest : List Named → List Named → List Named
+latest before [] = before
+latest before (p ∷ ps) = latest (put before p) ps
+
+-- the procedure may be put: there is one of its name, or it may be added
+abbrev pub MayPut : List Named → Named → Type 0
+MayPut procedures p = number_of procedures p.name ≡ None → naming_refusal procedures p.name ≡ None
+
+-- each may be put once those before it were
+abbrev pub MayPutAll : List Named → List Named → Type 0
+MayPutAll before [] = Unit {0}
+MayPutAll before (p ∷ ps) = MayPut before p × MayPutAll (put before p) ps
+
+-- each of these names is that of a procedure
+abbrev pub AreKnown : List Named → List Named → Type 0
+AreKnown procedures others = All (λ p. number_of procedures p.name ≢ None) others
+
+abbrev pub name_of : Named → List ℕ
+name_of p = p.name
+
+-- the second list begins with procedures of the same names as the first; their codes may be others
+abbrev pub KeepsNames : List Named → List Named → Type 0
+KeepsNames xs ys = (more : List (List ℕ)) × (map name_of ys ≡ map name_of xs ++ more)
+
+-- procedure n has another code in the second list
+abbrev pub IsOther : List Named → List Named → ℕ → Type 0
+IsOther xs ys n = (get_or ys n no_procedure).code ≢ (get_or xs n no_procedure).code
+
+-- the name is that of a procedure that has another code in the second list
+pub record IsOtherName (xs ys : List Named) (name : List ℕ) : Type 0 where
+  pub number : ℕ
+  pub inside : number < length xs
+  pub same : name ≡ (get_or xs number no_procedure).name
+  pub other : IsOther xs ys number
+
+-- These are names of procedures that have other codes in the second list, among them all such of the first n.
+pub record OtherNamesBelow (n : ℕ) (xs ys : List Named) (names : List (List ℕ)) : Type 0 where
+  pub each : All (IsOtherName xs ys) names
+  pub whole : (number : ℕ) → number < n → IsOther xs ys number → Contains names (get_or xs number no_procedure).name
+
+-- all names of procedures that have other codes in the second list
+abbrev pub AreOtherNames : List Named → List Named → List (List ℕ) → Type 0
+AreOtherNames xs ys names = OtherNamesBelow (length xs) xs ys names

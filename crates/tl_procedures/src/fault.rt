@@ -4,7 +4,7 @@ ghost use Rattle.std.specs.Prelude.{◌≡◌};
 ghost use Rattle.tl_procedures.specs.declared.fault.NamingFault.TheVariants.{Memory};
 
 use arrayvec::ArrayVec;
-use std::alloc::AllocError;
+use std::alloc::{AllocError, AllocFailed};
 use thiserror::Error;
 
 /// Why a procedure isn't added under a name.
@@ -47,5 +47,52 @@ impl From<AllocError> for NamingFault {
 
     fn from(_refused: AllocError) -> NamingFault {
         NamingFault::Memory
+    }
+}
+
+/// Why no procedure is put in the place of another.
+#[derive(Clone, Copy, Debug, PartialEq, Eq, Error)]
+pub enum ReplacingFault {
+    /// 601: no procedure has that name.
+    #[error("no procedure has that name")]
+    NoProcedure,
+    /// 690: memory was refused.
+    #[error("out of memory")]
+    Memory,
+}
+
+impl ReplacingFault {
+    ghost use Rattle.tl_procedures.specs.Faults.{replacing_numbers_of};
+
+    /// The fault's number.
+    pub fn numbers(&self) -> ArrayVec<u64, 1>
+        ensures { result.items ≡ replacing_numbers_of self.now }
+    {
+        let mut numbers = ArrayVec::new();
+        numbers.push(match self {
+            ReplacingFault::NoProcedure => 601,
+            ReplacingFault::Memory => 690,
+        });
+        numbers
+    }
+}
+
+impl From<AllocError> for ReplacingFault {
+    ghost use Rattle.tl_procedures.specs.declared.fault.ReplacingFault.TheVariants as replacing;
+
+    ghost from_gives = { λ _ e. e ≡ replacing.Memory };
+
+    fn from(_refused: AllocError) -> ReplacingFault {
+        ReplacingFault::Memory
+    }
+}
+
+impl<T: Drop> From<AllocFailed<T>> for ReplacingFault {
+    ghost use Rattle.tl_procedures.specs.declared.fault.ReplacingFault.TheVariants as replacing;
+
+    ghost from_gives = { λ _ e. e ≡ replacing.Memory };
+
+    fn from(_refused: AllocFailed<T>) -> ReplacingFault {
+        ReplacingFault::Memory
     }
 }

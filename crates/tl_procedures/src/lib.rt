@@ -9,7 +9,7 @@ mod named;
 mod procedures;
 mod request;
 
-pub use fault::NamingFault;
+pub use fault::{NamingFault, ReplacingFault};
 pub use named::NamedProcedure;
 pub use procedures::{MAX_NAME, MAX_PROCEDURES, Procedures};
 pub use request::Request;

@@ -1,11 +1,12 @@
 // Procedures under their names.
 
-ghost use Rattle.std.specs.Prelude.{◌≡◌, ◌≢◌, ◌≤◌, ◌<◌, ◌∷◌, ◌++◌, [], length, None, Some, IfOk, OnOk, OnErr, IfErr, slice_get, option_map, IsTrue, ◌↔◌, get_or};
+ghost use Rattle.std.specs.Prelude.{map, string_bytes, ◌+◌, ◌≡◌, ◌≢◌, ◌≤◌, ◌<◌, ◌∷◌, ◌++◌, [], length, None, Some, IfOk, OnOk, OnErr, IfErr, slice_get, option_map, IsTrue, ◌↔◌, get_or};
 ghost use Rattle.std.specs.Arc.{arc_value};
-ghost use Rattle.tl_procedures.specs.Names.{number_of, is_name, naming_refusal, no_procedure, AreFreeAfter, BeginsWith, IsFirstRefused};
+ghost use Rattle.tl_procedures.specs.Names.{number_of, is_name, naming_refusal, no_procedure, AreFreeAfter, BeginsWith, IsFirstRefused, AreKnown, with_code, replaced, put, KeepsNames, OtherNamesBelow, AreOtherNames};
 ghost use Rattle.tl_procedures.specs.declared.fault.NamingFault.TheVariants as fault;
+ghost use Rattle.tl_procedures.specs.declared.fault.ReplacingFault.TheVariants as replacing;
 
-use crate::fault::NamingFault;
+use crate::fault::{NamingFault, ReplacingFault};
 use crate::named::NamedProcedure;
 use indexmap::IndexMap;
 use std::alloc::{AllocError, Global};
@@ -154,6 +155,100 @@ impl Procedures {
         Ok(())
     }
 
+    /// The same procedures under the same names, but the code of this one under its name.
+    fn with_code(
+        &self,
+        alloc: Global,
+        name: &str,
+        procedure: &Arc<Proc>,
+    ) -> Result<Procedures, AllocError>
+        ensures { IfOk result (λ p. p ≡ map (with_code (record { name = name.now; code = arc_value procedure.now })) self.now) }
+    {
+        let mut copy = Procedures::new(alloc);
+        for number in 0..self.len() as u32 {
+            let own = self.name(number);
+            let code = if own == name {
+                procedure
+            } else {
+                self.get(number)
+            };
+            let Ok(_) = copy.add_shared(alloc, own, code) else {
+                return Err(AllocError);
+            };
+        }
+        Ok(copy)
+    }
+
+    // The same procedures under the same names, but the codes of these, one after another, under theirs.
+    fn with_codes(&self, alloc: Global, others: &Procedures) -> Result<Procedures, AllocError>
+        ensures { IfOk result (λ p. p ≡ replaced self.now others.now) }
+    {
+        let mut procedures = self.copy(alloc)?;
+        for number in 0..others.len() as u32 {
+            procedures = procedures.with_code(alloc, others.name(number), others.get(number))?;
+        }
+        Ok(procedures)
+    }
+
+    // Whether one of them has the name of that one of the others.
+    fn has(&self, others: &Procedures, number: u32) -> bool
+        requires { number < length others.now }
+        ensures { IsTrue result ↔ (number_of self.now (get_or others.now number no_procedure).name ≢ None) }
+    {
+        self.number_of(others.name(number)).is_some()
+    }
+
+    /// Whether each of the others has the name of one of them.
+    pub fn has_all(&self, others: &Procedures) -> bool
+        ensures { IsTrue result ↔ AreKnown self.now others.now }
+    {
+        for number in 0..others.len() as u32 {
+            if !self.has(others, number) {
+                return false;
+            }
+        }
+        true
+    }
+
+    /// Puts a procedure in the place of the one with its name, or adds it as the last if there is none. 612 or 613 if the name can't be added;
+    /// 690 if memory is refused.
+    pub fn put(&mut self, alloc: Global, name: &str, procedure: Proc) -> Result<(), NamingFault>
+        ensures put { OnOk result (self.new ≡ put self.old (record { name = name.now; code = procedure })) }
+        ensures fault { IfErr result (λ e. e ≢ fault.Memory → (number_of self.old name.now ≡ None) × (naming_refusal self.old name.now ≡ Some e)) }
+        ensures err { OnErr result (self.new ≡ self.old) }
+    {
+        if self.number_of(name).is_none() {
+            self.add(alloc, name, procedure)?;
+            return Ok(());
+        }
+        let Ok(procedure) = Arc::new(alloc, procedure) else {
+            return Err(NamingFault::Memory);
+        };
+        *self = self.with_code(alloc, name, &procedure)?;
+        Ok(())
+    }
+
+    /// Puts the code of each of the others in the place of the one with its name, or changes nothing: 601 if there is no procedure of one of
+    /// the names; 690 if memory is refused.
+    pub fn replace_all(&mut self, alloc: Global, others: &Procedures) -> Result<(), ReplacingFault>
+        ensures known { OnOk result (AreKnown self.old others.now) }
+        ensures replaced { OnOk result (self.new ≡ replaced self.old others.now) }
+        ensures fault { IfErr result (λ e. e ≡ replacing.NoProcedure → AreKnown self.old others.now → ⊥) }
+        ensures memory { IfErr result (λ e. e ≡ replacing.Memory → AreKnown self.old others.now) }
+        ensures err { OnErr result (self.new ≡ self.old) }
+    {
+        if !self.has_all(others) {
+            return Err(ReplacingFault::NoProcedure);
+        }
+        match self.with_codes(alloc, others) {
+            Ok(procedures) => {
+                *self = procedures;
+                Ok(())
+            }
+            Err(_) => Err(ReplacingFault::Memory),
+        }
+    }
+
     /// The same procedures under the same names. No name is refused, since each was free when it was added.
     pub fn copy(&self, alloc: Global) -> Result<Procedures, AllocError>
         ensures { IfOk result (λ p. p ≡ self.now) }
@@ -171,6 +266,21 @@ impl Procedures {
     pub fn begin_with(&self, first: &Procedures) -> bool
         ensures { IsTrue result ↔ BeginsWith first.now self.now }
     {
+        if !self.keep_names(first) {
+            return false;
+        }
+        for number in 0..first.len() as u32 {
+            if !self.get(number).is(first.get(number)) {
+                return false;
+            }
+        }
+        true
+    }
+
+    /// Whether they begin with procedures of the same names as `first`; their codes may be others.
+    pub fn keep_names(&self, first: &Procedures) -> bool
+        ensures { IsTrue result ↔ KeepsNames first.now self.now }
+    {
         if self.len() < first.len() {
             return false;
         }
@@ -178,11 +288,42 @@ impl Procedures {
             if self.name(number) != first.name(number) {
                 return false;
             }
-            if !self.get(number).is(first.get(number)) {
-                return false;
-            }
         }
         true
+    }
+
+    // Adds the name of the next procedure, if it has another code here.
+    #[tactic(auto, using(crate::proofs::Others::others_push, crate::proofs::Others::others_same))]
+    fn add_other(
+        &self,
+        alloc: Global,
+        first: &Procedures,
+        number: u32,
+        names: &mut Vec<String>,
+    ) -> Result<(), AllocError>
+        requires inside { number < length first.now }
+        requires within { number < length self.now }
+        requires so_far { OtherNamesBelow number first.now self.now (map string_bytes names.old.items) }
+        ensures { OnOk result (OtherNamesBelow (number + 1) first.now self.now (map string_bytes names.new.items)) }
+    {
+        if self.get(number).is(first.get(number)) {
+            return Ok(());
+        }
+        names.push(String::from_str(alloc, first.name(number))?)?;
+        Ok(())
+    }
+
+    /// The names of those of `first` that have other codes here, under the same numbers.
+    #[tactic(auto, using(crate::proofs::Others::others_none))]
+    pub fn others(&self, alloc: Global, first: &Procedures) -> Result<Vec<String>, AllocError>
+        requires { length first.now ≤ length self.now }
+        ensures { IfOk result (λ v. AreOtherNames first.now self.now (map string_bytes v.items)) }
+    {
+        let mut names = Vec::new(alloc);
+        for number in 0..first.len() as u32 {
+            self.add_other(alloc, first, number, &mut names)?;
+        }
+        Ok(names)
     }
 
     // Whether a procedure may be added under the name: 612, 611, 613.

@@ -13,7 +13,7 @@ use Rattle.tl_workers.specs.Refusals.{AreCallRefusals}
 use Rattle.tl_server.specs.declared.fault.LineFault.{LineFault}
 use Rattle.tl_server.specs.Answers.{line_text, error_text, batch_text}
 use Rattle.tl_server.specs.Faults.{numbers_of}
-use Rattle.tl_server.specs.Requests.{LineValue, Registers, RegistersText, Calls, CallsOnce, Batches, Grows, Seals, Closes, IsRequest, IsLineFault}
+use Rattle.tl_server.specs.Requests.{LineValue, Registers, RegistersText, Replaces, Calls, CallsOnce, Batches, Grows, Seals, Closes, IsRequest, IsLineFault}
 use Rattle.tl_server.specs.Served.{Ways, Keying, KnowsNoKeys, KeepsNoKeys, KeepsKeys, CallOutcome, IsCallAnswer, IsKeptAnswer, IsOnceAnswer, AnswersRequest, AnswersLine, IsAnswer}
 use Rattle.tl_server.specs.Runs.{AllGot, GainsWholeCalls}
 use Rattle.tl_server.proofs.Goings.{Laws}
@@ -110,6 +110,7 @@ request_whole ways may_seal (Batches calls workers) gained out h = ⊎_elim
     (λ (b : (answers : List (Result Receipt Refusal)) × AnswersEach h.0 answers × AreCallRefusals ways.seals answers × (gained ≡ asked_of h.0 answers ++ gots_of answers) × (out ≡ line_text (batch_text answers))).
     subst AllGot (sym b.3) (batch_whole h.0 b.0 b.1))
     h.2
+request_whole ways may_seal (Replaces text) gained out h = nothing gained h.0
 request_whole ways may_seal (Grows parents) gained out h = nothing gained h.0
 request_whole ways may_seal Seals gained out h = nothing gained h.0
 request_whole ways may_seal Closes gained out h = absurd h

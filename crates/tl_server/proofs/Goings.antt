@@ -10,7 +10,7 @@ use Rattle.tl_server.specs.declared.request.TheConstants.{MAX_LINE}
 use Rattle.tl_server.specs.declared.reader.Came.TheVariants.{Whole, Rest, End}
 use Rattle.tl_server.specs.declared.fault.LineFault.{LineFault}
 use Rattle.tl_server.specs.declared.fault.LineFault.TheVariants as fault
-use Rattle.tl_server.specs.Requests.{LineValue, Registers, RegistersText, Calls, CallsOnce, Batches, Grows, Seals, Closes, IsRequest, IsLineFault}
+use Rattle.tl_server.specs.Requests.{LineValue, Registers, RegistersText, Replaces, Calls, CallsOnce, Batches, Grows, Seals, Closes, IsRequest, IsLineFault}
 use Rattle.tl_server.specs.Served.{Ways, SealOutcome, Answered, AnswersRequest, AnswersLine, ClosesLine, IsAnswer, AnsweredAll}
 use Rattle.tl_server.specs.Lines.{with_lfs, HasNoLf, NoLfs, lines_of, onto_first}
 use Rattle.tl_server.specs.Devices.{Adds, AddsPart}
@@ -127,6 +127,7 @@ may_line ways may may' (RegistersText text) g o h a = a
 may_line ways may may' (Calls name args) g o h a = a
 may_line ways may may' (CallsOnce name args key) g o h a = a
 may_line ways may may' (Batches calls workers) g o h a = a
+may_line ways may may' (Replaces text) g o h a = a
 may_line ways may may' (Grows parents) g o h a = a
 may_line ways may may' Seals g o h a = (a.0, (a.1.0, may_seal_too ways.seals may may' a.1.0 h a.1.1, a.1.2))
 may_line ways may may' Closes g o h a = a

@@ -1,6 +1,6 @@
 -- The result of a request and its answer, where `base` epochs precede the engine's first.
 use Rattle.std.proofs.Common.{◌≡◌, ◌+◌, ◌∙◌, ℕ, ℤ, List, [], ◌∷◌, ◌++◌, map, refl, sym, ap, subst, inl, inr, Bool, true, false, ◌≤◌, arith}
-use Rattle.std.specs.Prelude.{Result, Ok, Err, Option, Some, None, IfSome, Vec, codes, string_bytes}
+use Rattle.std.specs.Prelude.{Result, Ok, Err, Option, Some, None, IfSome, Vec, String, codes, string_bytes}
 use Rattle.std.proofs.lemmas.List.{map-append}
 use Rattle.std.specs.declared.alloc.Global.{Global}
 use Rattle.std.specs.List.{join_with_byte}
@@ -17,19 +17,20 @@ use Rattle.tl_workers.specs.Refusals.{AreCallRefusals, numbers_of}
 use Rattle.tl_keys.specs.Kept.{KeptValue}
 use Rattle.tl_server.specs.declared.fault.KeyFault.TheVariants.{NoStore}
 use Rattle.tl_server.specs.Faults.{key_numbers_of}
-use Rattle.tl_server.specs.Answers.{line_text, error_text, one_text, kept_text, batch_text, register_text, text_register_text, growth_text, seal_text}
-use Rattle.tl_server.specs.Requests.{LineValue, Registers, RegistersText, Calls, CallsOnce, Batches, Grows, Seals, Closes, line_view}
+use Rattle.tl_server.specs.Answers.{line_text, error_text, one_text, kept_text, batch_text, register_text, text_register_text, replace_text, growth_text, seal_text}
+use Rattle.tl_server.specs.Requests.{LineValue, Registers, RegistersText, Replaces, Calls, CallsOnce, Batches, Grows, Seals, Closes, line_view}
 use Rattle.tl_server.specs.declared.request.LineRequest.{LineRequest}
-use Rattle.tl_server.specs.declared.request.LineRequest.TheVariants.{Register, RegisterText, Call, CallOnce, Batch, Grow, Seal, Close}
+use Rattle.tl_server.specs.declared.request.LineRequest.TheVariants.{Register, RegisterText, Replace, Call, CallOnce, Batch, Grow, Seal, Close}
 use Rattle.tl_server.specs.Gaining.{later_all}
 use Rattle.tl_server.specs.declared.outcome.Done.{Done}
-use Rattle.tl_server.specs.Served.{Ways, TextReader, TextReading, NoTexts, ReadBy, Keying, KnowsNoKeys, KeepsNoKeys, KeepsKeys, IsOnceAnswer, IsTextAnswer, CallOutcome, SealOutcome, IsSealable, IsBatchAnswer, IsGrowthAnswer, AnswersRequest}
-use Rattle.tl_server.specs.declared.outcome.RequestOutcome.TheVariants.{Registered, RegisteredAll, Called, Recalled, KeyRefused, Batched, Grown, Unknown, Sealed}
+use Rattle.tl_server.specs.Served.{Ways, TextReader, TextReading, NoTexts, ReadBy, Keying, KnowsNoKeys, KeepsNoKeys, KeepsKeys, IsOnceAnswer, IsTextAnswer, IsReplaceAnswer, CallOutcome, SealOutcome, IsSealable, IsBatchAnswer, IsGrowthAnswer, AnswersRequest}
+use Rattle.tl_server.specs.declared.outcome.RequestOutcome.TheVariants.{Registered, RegisteredAll, Replaced, Called, Recalled, KeyRefused, Batched, Grown, Unknown, Sealed}
 use Rattle.tl_server.specs.declared.outcome.RequestOutcome.{RequestOutcome}
 use Rattle.tl_server.specs.declared.texts.NamedBounds.{NamedBounds}
 use Rattle.tl_server.specs.declared.texts.TextFault.{TextFault}
+use Rattle.tl_server.specs.declared.texts.ReplaceFault.{ReplaceFault}
 use Rattle.tl_server.proofs.Goings.{may_line}
-use Rattle.tl_server.specs.Outcomes.{BatchOutcome, IsProvided, IsUnknown, IsRegisteredText, IsCalledOrRecalled, IsKeyRefused, IsCalledOnce, IsGrowth, outcome_text, CameOf, later, later_answer, later_seal, later_did, IsSealableAt, GoesOnFrom}
+use Rattle.tl_server.specs.Outcomes.{BatchOutcome, IsProvided, IsUnknown, IsRegisteredText, IsReplacedBy, IsReplacement, IsCalledOrRecalled, IsKeyRefused, IsCalledOnce, IsGrowth, outcome_text, CameOf, later, later_answer, later_seal, later_did, IsSealableAt, GoesOnFrom}
 
 map_both : {A B C : Type 0} (f : B → C) (g : A → B) (xs : List A) → map (λ a. f (g a)) xs ≡ map f (map g xs)
 map_both f g [] = refl
@@ -132,10 +133,30 @@ unknown_once KnowsNoKeys seals q own base w = (ap (map (later_did base)) w, refl
 unknown_once KeepsNoKeys seals q own base w = absurd w
 unknown_once KeepsKeys seals q own base w = absurd w
 
+-- of a replacement there is no other outcome than its own, or that the request isn't known
+no_replacement : (grows : Bool) (reads : TextReading) (text : List ℕ) (own : List Did) (o : RequestOutcome) → ((reader : TextReader) → IsReplacedBy reader text own o → ⊥) → (IsUnknown own o → ⊥)
+    → IsReplacement grows reads text own o → ⊥
+no_replacement true (ReadBy reader) text own o replaced unknown w = replaced reader w
+no_replacement true NoTexts text own o replaced unknown w = unknown w
+no_replacement false reads text own o replaced unknown w = unknown w
+
+replacement_replaced : (grows : Bool) (reads : TextReading) (text : List ℕ) (own : List Did) (base : ℕ) (a : Result (Vec NamedBounds Global) ReplaceFault) → IsReplacement grows reads text own (Replaced a)
+    → (map (later_did base) own ≡ []) × IsReplaceAnswer grows reads text (line_text (replace_text a))
+replacement_replaced true (ReadBy reader) text own base a w = (ap (map (later_did base)) w.0, (a, w.1, refl))
+replacement_replaced true NoTexts text own base a w = absurd w
+replacement_replaced false reads text own base a w = absurd w
+
+replacement_unknown : (grows : Bool) (reads : TextReading) (text : List ℕ) (own : List Did) (base : ℕ) → IsReplacement grows reads text own Unknown
+    → (map (later_did base) own ≡ []) × IsReplaceAnswer grows reads text (line_text (error_text (901 ∷ [])))
+replacement_unknown true (ReadBy reader) text own base w = absurd w
+replacement_unknown true NoTexts text own base w = (ap (map (later_did base)) w, refl)
+replacement_unknown false reads text own base w = (ap (map (later_did base)) w, refl)
+
 registered : (ways : Ways) (r : LineValue) (own : List Did) (base : ℕ) (a : Result Bounds RegisterFault) → CameOf ways r own (Registered a)
     → AnswersRequest ways (IsSealableAt base) r (map (later_did base) own) (line_text (register_text a))
 registered ways (Registers name text) own base a w = (ap (map (later_did base)) w.0, (a, w.1, refl))
 registered ways (RegistersText text) own base a w = absurd (neither ways.reads text own (Registered a) (λ reader v. v) (λ v. v) w)
+registered ways (Replaces text) own base a w = absurd (no_replacement ways.grows ways.reads text own (Registered a) (λ reader v. v) (λ v. v) w)
 registered ways (Calls name args) own base a w = absurd w
 registered ways (CallsOnce name args key) own base a w = absurd (no_once ways.keys ways.seals (name, args) own (Registered a) (λ v. v) (λ v. v) (λ v. v) w)
 registered ways (Batches calls workers) own base a w = absurd w
@@ -147,6 +168,7 @@ registered_all : (ways : Ways) (r : LineValue) (own : List Did) (base : ℕ) (a 
     → AnswersRequest ways (IsSealableAt base) r (map (later_did base) own) (line_text (text_register_text a))
 registered_all ways (Registers name text) own base a w = absurd w
 registered_all ways (RegistersText text) own base a w = text_registered ways.reads text own base a w
+registered_all ways (Replaces text) own base a w = absurd (no_replacement ways.grows ways.reads text own (RegisteredAll a) (λ reader v. v) (λ v. v) w)
 registered_all ways (Calls name args) own base a w = absurd w
 registered_all ways (CallsOnce name args key) own base a w = absurd (no_once ways.keys ways.seals (name, args) own (RegisteredAll a) (λ v. v) (λ v. v) (λ v. v) w)
 registered_all ways (Batches calls workers) own base a w = absurd w
@@ -158,6 +180,7 @@ called : (ways : Ways) (r : LineValue) (own : List Did) (base : ℕ) (a : Result
     → AnswersRequest ways (IsSealableAt base) r (map (later_did base) own) (line_text (one_text (later_answer base a)))
 called ways (Registers name text) own base a w = absurd w
 called ways (RegistersText text) own base a w = absurd (neither ways.reads text own (Called a) (λ reader v. v) (λ v. v) w)
+called ways (Replaces text) own base a w = absurd (no_replacement ways.grows ways.reads text own (Called a) (λ reader v. v) (λ v. v) w)
 called ways (Calls name args) own base a w = (later_answer base a, call_later ways.seals base (name, args) own a w, refl)
 called ways (CallsOnce name args key) own base a w = called_once ways.keys ways.seals (name, args) own base a w
 called ways (Batches calls workers) own base a w = absurd w
@@ -169,6 +192,7 @@ recalled : (ways : Ways) (r : LineValue) (own : List Did) (base : ℕ) (kept : K
     → AnswersRequest ways (IsSealableAt base) r (map (later_did base) own) (line_text (kept_text kept))
 recalled ways (Registers name text) own base kept w = absurd w
 recalled ways (RegistersText text) own base kept w = absurd (neither ways.reads text own (Recalled kept) (λ reader v. v) (λ v. v) w)
+recalled ways (Replaces text) own base kept w = absurd (no_replacement ways.grows ways.reads text own (Recalled kept) (λ reader v. v) (λ v. v) w)
 recalled ways (Calls name args) own base kept w = absurd w
 recalled ways (CallsOnce name args key) own base kept w = recalled_once ways.keys ways.seals (name, args) own base kept w
 recalled ways (Batches calls workers) own base kept w = absurd w
@@ -180,6 +204,7 @@ key_refused : (ways : Ways) (r : LineValue) (own : List Did) (base : ℕ) → Ca
     → AnswersRequest ways (IsSealableAt base) r (map (later_did base) own) (line_text (error_text (key_numbers_of NoStore)))
 key_refused ways (Registers name text) own base w = absurd w
 key_refused ways (RegistersText text) own base w = absurd (neither ways.reads text own (KeyRefused NoStore) (λ reader v. v) (λ v. v) w)
+key_refused ways (Replaces text) own base w = absurd (no_replacement ways.grows ways.reads text own (KeyRefused NoStore) (λ reader v. v) (λ v. v) w)
 key_refused ways (Calls name args) own base w = absurd w
 key_refused ways (CallsOnce name args key) own base w = refused_once ways.keys ways.seals (name, args) own base w
 key_refused ways (Batches calls workers) own base w = absurd w
@@ -191,6 +216,7 @@ batched : (ways : Ways) (r : LineValue) (own : List Did) (base : ℕ) (v : Vec (
     → AnswersRequest ways (IsSealableAt base) r (map (later_did base) own) (line_text (batch_text (map (later_answer base) v.items)))
 batched ways (Registers name text) own base v w = absurd w
 batched ways (RegistersText text) own base v w = absurd (neither ways.reads text own (Batched (Ok v)) (λ reader v. v) (λ v. v) w)
+batched ways (Replaces text) own base v w = absurd (no_replacement ways.grows ways.reads text own (Batched (Ok v)) (λ reader v. v) (λ v. v) w)
 batched ways (Calls name args) own base v w = absurd w
 batched ways (CallsOnce name args key) own base v w = absurd (no_once ways.keys ways.seals (name, args) own (Batched (Ok v)) (λ v. v) (λ v. v) (λ v. v) w)
 batched ways (Batches calls workers) own base v w = (w.0, w.1, batch_later ways.seals base w.0 own v w.2)
@@ -202,6 +228,7 @@ unbatched : (ways : Ways) (r : LineValue) (own : List Did) (base : ℕ) (e : Ref
     → AnswersRequest ways (IsSealableAt base) r (map (later_did base) own) (line_text (error_text (numbers_of e)))
 unbatched ways (Registers name text) own base e w = absurd w
 unbatched ways (RegistersText text) own base e w = absurd (neither ways.reads text own (Batched (Err e)) (λ reader v. v) (λ v. v) w)
+unbatched ways (Replaces text) own base e w = absurd (no_replacement ways.grows ways.reads text own (Batched (Err e)) (λ reader v. v) (λ v. v) w)
 unbatched ways (Calls name args) own base e w = absurd w
 unbatched ways (CallsOnce name args key) own base e w = absurd (no_once ways.keys ways.seals (name, args) own (Batched (Err e)) (λ v. v) (λ v. v) (λ v. v) w)
 unbatched ways (Batches calls workers) own base e w =
@@ -214,6 +241,7 @@ sealed : (ways : Ways) (r : LineValue) (own : List Did) (base : ℕ) (a : Result
     → AnswersRequest ways (IsSealableAt base) r (map (later_did base) own) (line_text (seal_text (later_seal base a)))
 sealed ways (Registers name text) own base a w = absurd w
 sealed ways (RegistersText text) own base a w = absurd (neither ways.reads text own (Sealed a) (λ reader v. v) (λ v. v) w)
+sealed ways (Replaces text) own base a w = absurd (no_replacement ways.grows ways.reads text own (Sealed a) (λ reader v. v) (λ v. v) w)
 sealed ways (Calls name args) own base a w = absurd w
 sealed ways (CallsOnce name args key) own base a w = absurd (no_once ways.keys ways.seals (name, args) own (Sealed a) (λ v. v) (λ v. v) (λ v. v) w)
 sealed ways (Batches calls workers) own base a w = absurd w
@@ -225,6 +253,7 @@ grown : (ways : Ways) (r : LineValue) (own : List Did) (base : ℕ) (a : Result 
     → AnswersRequest ways (IsSealableAt base) r (map (later_did base) own) (line_text (growth_text a))
 grown ways (Registers name text) own base a w = absurd w
 grown ways (RegistersText text) own base a w = absurd (neither ways.reads text own (Grown a) (λ reader v. v) (λ v. v) w)
+grown ways (Replaces text) own base a w = absurd (no_replacement ways.grows ways.reads text own (Grown a) (λ reader v. v) (λ v. v) w)
 grown ways (Calls name args) own base a w = absurd w
 grown ways (CallsOnce name args key) own base a w = absurd (no_once ways.keys ways.seals (name, args) own (Grown a) (λ v. v) (λ v. v) (λ v. v) w)
 grown ways (Batches calls workers) own base a w = absurd w
@@ -233,10 +262,23 @@ grown ways (Grows parents) own base a w =
 grown ways Seals own base a w = absurd w
 grown ways Closes own base a w = absurd w
 
+replaced : (ways : Ways) (r : LineValue) (own : List Did) (base : ℕ) (a : Result (Vec NamedBounds Global) ReplaceFault) → CameOf ways r own (Replaced a)
+    → AnswersRequest ways (IsSealableAt base) r (map (later_did base) own) (line_text (replace_text a))
+replaced ways (Registers name text) own base a w = absurd w
+replaced ways (RegistersText text) own base a w = absurd (neither ways.reads text own (Replaced a) (λ reader v. v) (λ v. v) w)
+replaced ways (Replaces text) own base a w = replacement_replaced ways.grows ways.reads text own base a w
+replaced ways (Calls name args) own base a w = absurd w
+replaced ways (CallsOnce name args key) own base a w = absurd (no_once ways.keys ways.seals (name, args) own (Replaced a) (λ v. v) (λ v. v) (λ v. v) w)
+replaced ways (Batches calls workers) own base a w = absurd w
+replaced ways (Grows parents) own base a w = absurd w
+replaced ways Seals own base a w = absurd w
+replaced ways Closes own base a w = absurd w
+
 unknown : (ways : Ways) (r : LineValue) (own : List Did) (base : ℕ) → CameOf ways r own Unknown
     → AnswersRequest ways (IsSealableAt base) r (map (later_did base) own) (line_text (error_text (901 ∷ [])))
 unknown ways (Registers name text) own base w = absurd w
 unknown ways (RegistersText text) own base w = text_unknown ways.reads text own base w
+unknown ways (Replaces text) own base w = replacement_unknown ways.grows ways.reads text own base w
 unknown ways (Calls name args) own base w = absurd w
 unknown ways (CallsOnce name args key) own base w = unknown_once ways.keys ways.seals (name, args) own base w
 unknown ways (Batches calls workers) own base w = absurd w
@@ -249,6 +291,7 @@ answered : (ways : Ways) (r : LineValue) (own : List Did) (base : ℕ) (o : Requ
     → AnswersRequest ways (IsSealableAt base) r (map (later_did base) own) (line_text (outcome_text base o))
 answered ways r own base (Registered a) w = registered ways r own base a w
 answered ways r own base (RegisteredAll a) w = registered_all ways r own base a w
+answered ways r own base (Replaced a) w = replaced ways r own base a w
 answered ways r own base (Called a) w = called ways r own base a w
 answered ways r own base (Recalled kept) w = recalled ways r own base kept w
 answered ways r own base (KeyRefused NoStore) w = key_refused ways r own base w
@@ -265,20 +308,27 @@ answered_for ways may r own base o came sealable =
     may_line ways (IsSealableAt base) may r (map (later_did base) own) (line_text (outcome_text base o))
     (λ n is. subst may (sym is.2) (sealable is.0 is.1)) (answered ways r own base o came)
 
--- what an engine does for a request other than growth doesn't depend on whether nodes can be appended
-pub grows_too : (seals grows : Bool) (reads : TextReading) (keys : Keying) (r : LineValue) (own : List Did) (o : RequestOutcome) → ((parents : List ℤ) → r ≡ Grows parents → grows ≡ false)
+-- the next engine takes over for the request, if that can be
+abbrev HandsOver : LineValue → Type 0
+HandsOver (Replaces text) = Unit {0}
+HandsOver (Grows parents) = Unit {0}
+HandsOver _ = ⊥
+
+-- what an engine does for another request doesn't depend on whether engines take over from one another
+pub grows_too : (seals grows : Bool) (reads : TextReading) (keys : Keying) (r : LineValue) (own : List Did) (o : RequestOutcome) → (HandsOver r → grows ≡ false)
     → CameOf (record { seals = seals; grows = false; reads = reads; keys = keys }) r own o → CameOf (record { seals = seals; grows = grows; reads = reads; keys = keys }) r own o
 grows_too seals grows reads keys (Registers name text) own o other w = w
 grows_too seals grows reads keys (RegistersText text) own o other w = w
+grows_too seals grows reads keys (Replaces text) own o other w = subst (λ b. IsReplacement b reads text own o) (sym (other tt)) w
 grows_too seals grows reads keys (Calls name args) own o other w = w
 grows_too seals grows reads keys (CallsOnce name args key) own o other w = w
 grows_too seals grows reads keys (Batches calls workers) own o other w = w
-grows_too seals grows reads keys (Grows parents) own o other w = subst (λ b. IsGrowth b parents own o) (sym (other parents refl)) w
+grows_too seals grows reads keys (Grows parents) own o other w = subst (λ b. IsGrowth b parents own o) (sym (other tt)) w
 grows_too seals grows reads keys Seals own o other w = w
 grows_too seals grows reads keys Closes own o other w = w
 
 -- the same for a relay that uses one of its engines
-pub performed : (grows : Bool) (reads : TextReading) (keys : Keying) (r : LineValue) (old new : ℕ) (o : Option Done) → ((parents : List ℤ) → r ≡ Grows parents → grows ≡ false)
+pub performed : (grows : Bool) (reads : TextReading) (keys : Keying) (r : LineValue) (old new : ℕ) (o : Option Done) → (HandsOver r → grows ≡ false)
     → IfSome o (λ d. (own : List Did) × CameOf (record { seals = true; grows = false; reads = reads; keys = keys }) r own d.outcome) → IfSome o (λ d. (old ≤ d.base) × (new ≡ d.base))
     → IfSome o (λ d. (own : List Did) × CameOf (record { seals = true; grows = grows; reads = reads; keys = keys }) r own d.outcome × GoesOnFrom old new (map (later_did d.base) own))
 performed grows reads keys r old new None other came later = tt
@@ -287,13 +337,14 @@ performed grows reads keys r old new (Some d) other came later =
     let from = later.0 in
     (own, grows_too true grows reads keys r own d.outcome other done, (omega (arith, from, later.1), later_all old d.base own from))
 
--- a request of another kind doesn't append nodes
-pub no_growth : (q : LineRequest) → ((parents : Vec ℤ Global) → q ≡ Grow parents → ⊥) → (parents : List ℤ) → line_view q ≡ Grows parents → ⊥
-no_growth (Register p) other parents is = cc
-no_growth (RegisterText text) other parents is = cc
-no_growth (Call q) other parents is = cc
-no_growth (CallOnce q) other parents is = cc
-no_growth (Batch b) other parents is = cc
-no_growth (Grow ps) other parents is = other ps refl
-no_growth Seal other parents is = cc
-no_growth Close other parents is = cc
+-- a request of another kind
+pub no_hand_over : (q : LineRequest) → ((text : String Global) → q ≡ Replace text → ⊥) → ((parents : Vec ℤ Global) → q ≡ Grow parents → ⊥) → HandsOver (line_view q) → ⊥
+no_hand_over (Register p) text parents is = is
+no_hand_over (RegisterText t) text parents is = is
+no_hand_over (Replace t) text parents is = text t refl
+no_hand_over (Call q) text parents is = is
+no_hand_over (CallOnce q) text parents is = is
+no_hand_over (Batch b) text parents is = is
+no_hand_over (Grow ps) text parents is = parents ps refl
+no_hand_over Seal text parents is = is
+no_hand_over Close text parents is = is

@@ -9,7 +9,7 @@ use Rattle.tl_workers.specs.declared.session.Did.{Did}
 use Rattle.tl_server.specs.Requests.{line_view}
 use Rattle.tl_server.specs.declared.request.KeyedCall.{KeyedCall}
 use Rattle.tl_server.specs.declared.request.LineRequest.{LineRequest}
-use Rattle.tl_server.specs.declared.request.LineRequest.TheVariants.{Register, RegisterText, Call, CallOnce, Batch, Grow, Seal, Close}
+use Rattle.tl_server.specs.declared.request.LineRequest.TheVariants.{Register, RegisterText, Replace, Call, CallOnce, Batch, Grow, Seal, Close}
 use Rattle.tl_server.specs.declared.outcome.RequestOutcome.{RequestOutcome}
 use Rattle.tl_server.specs.declared.texts.NamedBounds.{NamedBounds}
 use Rattle.tl_server.specs.declared.texts.TextFault.{TextFault}
@@ -43,6 +43,7 @@ pub reads_too : (seals : Bool) (reads : TextReading) (keys : Keying) (q : LineRe
     → CameOf (record { seals = seals; grows = false; reads = NoTexts; keys = KnowsNoKeys }) (line_view q) own o → CameOf (record { seals = seals; grows = false; reads = reads; keys = keys }) (line_view q) own o
 reads_too seals reads keys (Register p) own o other once came = came
 reads_too seals reads keys (RegisterText text) own o other once came = absurd (other text refl)
+reads_too seals reads keys (Replace text) own o other once came = came
 reads_too seals reads keys (Call q) own o other once came = came
 reads_too seals reads keys (CallOnce q) own o other once came = absurd (once q refl)
 reads_too seals reads keys (Batch b) own o other once came = came

@@ -12,9 +12,10 @@ use Rattle.tl_generations.specs.declared.growth.GrowthFault.{GrowthFault}
 use Rattle.tl_generations.specs.Growth.{numbers_of as growth_numbers_of}
 use Rattle.tl_workers.specs.declared.refusal.Refusal.{Refusal}
 use Rattle.tl_workers.specs.Refusals.{numbers_of}
-use Rattle.tl_server.specs.Faults.{text_numbers_of}
+use Rattle.tl_server.specs.Faults.{text_numbers_of, replace_numbers_of}
 use Rattle.tl_server.specs.declared.texts.NamedBounds.{NamedBounds}
 use Rattle.tl_server.specs.declared.texts.TextFault.{TextFault}
+use Rattle.tl_server.specs.declared.texts.ReplaceFault.{ReplaceFault}
 
 -- the text and a line feed
 abbrev pub line_text : List ℕ → List ℕ
@@ -69,6 +70,11 @@ named_bounds_text b = codes "{\"bounds\":" ++ bounds_text b.bounds ++ codes ",\"
 abbrev pub text_register_text : Result (Vec NamedBounds Global) TextFault → List ℕ
 text_register_text (Ok v) = codes "{\"registered\":" ++ list_text named_bounds_text v.items ++ codes "}"
 text_register_text (Err e) = error_text (text_numbers_of e)
+
+-- the answer where a text's procedures take the place of others
+abbrev pub replace_text : Result (Vec NamedBounds Global) ReplaceFault → List ℕ
+replace_text (Ok v) = codes "{\"replaced\":" ++ list_text named_bounds_text v.items ++ codes "}"
+replace_text (Err e) = error_text (replace_numbers_of e)
 
 -- the answer to a seal
 abbrev pub seal_text : Result ℕ Refusal → List ℕ

@@ -3,6 +3,8 @@ use Rattle.std.specs.Prelude.{ℕ, List, [], ◌∷◌}
 use Rattle.tl_procedures.specs.Faults.{numbers_of as name_numbers_of}
 use Rattle.tl_server.specs.declared.texts.TextFault.{TextFault}
 use Rattle.tl_server.specs.declared.texts.TextFault.TheVariants as text
+use Rattle.tl_server.specs.declared.texts.ReplaceFault.{ReplaceFault}
+use Rattle.tl_server.specs.declared.texts.ReplaceFault.TheVariants as replace
 use Rattle.tl_server.specs.declared.fault.KeyFault.{KeyFault}
 use Rattle.tl_server.specs.declared.fault.KeyFault.TheVariants.{NoStore}
 use Rattle.tl_server.specs.declared.fault.ServeFault.{ServeFault}
@@ -30,6 +32,12 @@ abbrev pub text_numbers_of : TextFault → List ℕ
 text_numbers_of (text.Text numbers) = numbers.items
 text_numbers_of (text.Name f) = name_numbers_of f
 text_numbers_of text.Memory = 990 ∷ []
+
+-- the numbers of the reason why the procedures of a text aren't put in the place of others
+abbrev pub replace_numbers_of : ReplaceFault → List ℕ
+replace_numbers_of (replace.Text numbers) = numbers.items
+replace_numbers_of (replace.Name f) = name_numbers_of f
+replace_numbers_of replace.NoProcedure = 601 ∷ []
 
 -- the number of the reason why a server stops
 abbrev pub serve_numbers_of : ServeFault → List ℕ

@@ -10,3 +10,4 @@ pub mod Outcomes
 pub mod Reports
 pub mod Gaining
 pub mod Runs
+pub mod Replacing

@@ -11,20 +11,21 @@ use Rattle.tl_workers.specs.declared.session.Did.{Did}
 use Rattle.tl_workers.specs.declared.session.Did.TheVariants.{Asked, Got}
 use Rattle.tl_workers.specs.Kept.{AnswersEach, asked_of, gots_of}
 use Rattle.tl_workers.specs.Refusals.{AreCallRefusals}
-use Rattle.tl_server.specs.Requests.{LineValue, Registers, RegistersText, Calls, CallsOnce, Batches, Grows, Seals, Closes}
+use Rattle.tl_server.specs.Requests.{LineValue, Registers, RegistersText, Replaces, Calls, CallsOnce, Batches, Grows, Seals, Closes}
 use Rattle.tl_workers.specs.Refusals.{numbers_of as refusal_numbers_of}
 use Rattle.tl_server.specs.declared.fault.LineFault.TheVariants.{NotRequest}
 use Rattle.tl_server.specs.declared.fault.KeyFault.TheVariants.{NoStore}
 use Rattle.tl_server.specs.Faults.{numbers_of, key_numbers_of}
-use Rattle.tl_server.specs.Answers.{one_text, kept_text, error_text, batch_text, register_text, text_register_text, growth_text, seal_text}
-use Rattle.tl_server.specs.Served.{Ways, TextReader, TextReading, NoTexts, ReadBy, Keying, KnowsNoKeys, KeepsNoKeys, KeepsKeys, RegisterOutcome, TextOutcome, CallOutcome, GrowthOutcome, SealOutcome, IsSealable}
+use Rattle.tl_server.specs.Answers.{one_text, kept_text, error_text, batch_text, register_text, text_register_text, replace_text, growth_text, seal_text}
+use Rattle.tl_server.specs.Served.{Ways, TextReader, TextReading, NoTexts, ReadBy, Keying, KnowsNoKeys, KeepsNoKeys, KeepsKeys, RegisterOutcome, TextOutcome, ReplaceOutcome, CallOutcome, GrowthOutcome, SealOutcome, IsSealable}
 use Rattle.tl_server.specs.declared.outcome.RequestOutcome.{RequestOutcome}
-use Rattle.tl_server.specs.declared.outcome.RequestOutcome.TheVariants.{Registered, RegisteredAll, Called, Recalled, KeyRefused, Batched, Grown, Unknown, Sealed}
+use Rattle.tl_server.specs.declared.outcome.RequestOutcome.TheVariants.{Registered, RegisteredAll, Replaced, Called, Recalled, KeyRefused, Batched, Grown, Unknown, Sealed}
 
 -- a request that an engine carries out
 abbrev pub IsAsked : LineValue → Type 0
 IsAsked (Registers name text) = Unit {0}
 IsAsked (RegistersText text) = Unit {0}
+IsAsked (Replaces text) = Unit {0}
 IsAsked (Calls name args) = Unit {0}
 IsAsked (CallsOnce name args key) = Unit {0}
 IsAsked (Batches calls workers) = Unit {0}
@@ -51,6 +52,16 @@ IsUnknown gained _ = ⊥
 abbrev pub IsRegisteredText : TextReading → List ℕ → List Did → RequestOutcome → Type 0
 IsRegisteredText (ReadBy reader) text gained outcome = IsProvided reader text gained outcome
 IsRegisteredText NoTexts text gained outcome = IsUnknown gained outcome
+
+abbrev pub IsReplacedBy : TextReader → List ℕ → List Did → RequestOutcome → Type 0
+IsReplacedBy reader text gained (Replaced answer) = (gained ≡ []) × ReplaceOutcome reader text answer
+IsReplacedBy reader text gained _ = ⊥
+
+-- the procedures of a text in the place of others, if engines take over from one another and texts are read
+abbrev pub IsReplacement : Bool → TextReading → List ℕ → List Did → RequestOutcome → Type 0
+IsReplacement true (ReadBy reader) text gained outcome = IsReplacedBy reader text gained outcome
+IsReplacement true NoTexts text gained outcome = IsUnknown gained outcome
+IsReplacement false reads text gained outcome = IsUnknown gained outcome
 
 abbrev pub IsCalled : Bool → List ℕ → List ℤ → List Did → RequestOutcome → Type 0
 IsCalled seals name args gained (Called answer) = CallOutcome seals (name, args) gained answer
@@ -94,6 +105,7 @@ IsSealed seals gained _ = ⊥
 abbrev pub CameOf : Ways → LineValue → List Did → RequestOutcome → Type 0
 CameOf ways (Registers name text) gained outcome = IsRegistered name text gained outcome
 CameOf ways (RegistersText text) gained outcome = IsRegisteredText ways.reads text gained outcome
+CameOf ways (Replaces text) gained outcome = IsReplacement ways.grows ways.reads text gained outcome
 CameOf ways (Calls name args) gained outcome = IsCalled ways.seals name args gained outcome
 CameOf ways (CallsOnce name args key) gained outcome = IsCalledOnce ways.keys ways.seals (name, args) gained outcome
 CameOf ways (Batches calls workers) gained outcome = IsBatched ways.seals calls gained outcome
@@ -124,6 +136,7 @@ batch_answer_text base (Err e) = error_text (refusal_numbers_of e)
 abbrev pub outcome_text : ℕ → RequestOutcome → List ℕ
 outcome_text base (Registered answer) = register_text answer
 outcome_text base (RegisteredAll answer) = text_register_text answer
+outcome_text base (Replaced answer) = replace_text answer
 outcome_text base (Called answer) = one_text (later_answer base answer)
 outcome_text base (Recalled kept) = kept_text kept
 outcome_text base (KeyRefused fault) = error_text (key_numbers_of fault)

@@ -2,13 +2,14 @@
 use Rattle.std.specs.Prelude.{ℕ, List, ◌++◌, length, codes, decimal, Result, Ok, Err, Vec, is_ok, count_by, if◌then◌else◌}
 use Rattle.std.specs.declared.alloc.Global.{Global}
 use Rattle.tl_server.specs.declared.outcome.RequestOutcome.{RequestOutcome}
-use Rattle.tl_server.specs.declared.outcome.RequestOutcome.TheVariants.{Registered, RegisteredAll, Called, Recalled, KeyRefused, Batched, Sealed, Grown, Unknown}
+use Rattle.tl_server.specs.declared.outcome.RequestOutcome.TheVariants.{Registered, RegisteredAll, Replaced, Called, Recalled, KeyRefused, Batched, Sealed, Grown, Unknown}
 use Rattle.tl_server.specs.declared.status.Status.{Status}
 
 -- the number of receipts among an outcome's answers
 abbrev pub receipts_of : RequestOutcome → ℕ
 receipts_of (Registered answer) = 0
 receipts_of (RegisteredAll answer) = 0
+receipts_of (Replaced answer) = 0
 receipts_of (Called answer) = if is_ok answer then 1 else 0
 receipts_of (Recalled kept) = 0
 receipts_of (KeyRefused fault) = 0
@@ -27,6 +28,7 @@ how_many (Err e) = 0
 abbrev pub registered_of : RequestOutcome → ℕ
 registered_of (Registered answer) = if is_ok answer then 1 else 0
 registered_of (RegisteredAll answer) = how_many answer
+registered_of (Replaced answer) = 0
 registered_of (Called answer) = 0
 registered_of (Recalled kept) = 0
 registered_of (KeyRefused fault) = 0

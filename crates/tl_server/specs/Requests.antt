@@ -11,15 +11,16 @@ use Rattle.tl_json.specs.Requests.{request_form, request_of}
 use Rattle.tl_workers.specs.declared.batch.TheConstants.{MAX_REQUESTS, MAX_WORKERS}
 use Rattle.tl_server.specs.declared.request.TheConstants.{MAX_LINE, MAX_KEY}
 use Rattle.tl_server.specs.declared.request.LineRequest.{LineRequest}
-use Rattle.tl_server.specs.declared.request.LineRequest.TheVariants.{Register, RegisterText, Call, CallOnce, Batch, Grow, Seal, Close}
+use Rattle.tl_server.specs.declared.request.LineRequest.TheVariants.{Register, RegisterText, Replace, Call, CallOnce, Batch, Grow, Seal, Close}
 use Rattle.tl_server.specs.declared.fault.LineFault.{LineFault}
 use Rattle.tl_server.specs.declared.fault.LineFault.TheVariants as fault
 
--- the name and the text of a procedure; the text of several procedures; the name and the arguments of a call, and maybe its key; several calls and their number of threads;
+-- the name and the text of a procedure; the text of several procedures; the text of procedures in the place of others; the name and the arguments of a call, and maybe its key; several calls and their number of threads;
 -- the parents of nodes to append to the tree; the seal of an epoch; or the end of the connection
 pub data LineValue : Type 0 where
   Registers : List ℕ → List ℕ → LineValue
   RegistersText : List ℕ → LineValue
+  Replaces : List ℕ → LineValue
   Calls : List ℕ → List ℤ → LineValue
   CallsOnce : List ℕ → List ℤ → List ℕ → LineValue
   Batches : List (List ℕ × List ℤ) → ℕ → LineValue
@@ -30,6 +31,7 @@ pub data LineValue : Type 0 where
 abbrev pub line_view : LineRequest → LineValue
 line_view (Register p) = Registers (string_bytes p.name) (string_bytes p.text)
 line_view (RegisterText text) = RegistersText (string_bytes text)
+line_view (Replace text) = Replaces (string_bytes text)
 line_view (Call q) = Calls (string_bytes q.name) q.args.items
 line_view (CallOnce q) = CallsOnce (string_bytes q.request.name) q.request.args.items (string_bytes q.key)
 line_view (Batch b) = Batches (map request_form b.requests.items) b.workers
@@ -37,7 +39,7 @@ line_view (Grow parents) = Grows parents.items
 line_view Seal = Seals
 line_view Close = Closes
 
--- ---- the eight forms
+-- ---- the nine forms
 
 -- the value is an object with `count` members
 abbrev pub has_members : ℕ → Data → Bool
@@ -54,6 +56,9 @@ abbrev pub register_of : Data → Option LineValue
 register_of d = if has_members 3 d
     then option_map (λ x. Registers x.0 x.1) (both (text_at (codes "name") d) (text_at (codes "asm") d))
     else register_text_of d
+
+abbrev pub replace_of : Data → Option LineValue
+replace_of d = if has_members 2 d then option_map Replaces (text_at (codes "text") d) else None
 
 -- the name and the arguments of a call
 abbrev pub request_at : Data → Option (List ℕ × List ℤ)
@@ -100,6 +105,7 @@ close_of d = if has_members 1 d then Some Closes else None
 abbrev pub request_with : List ℕ → Data → Option LineValue
 request_with op d =
     if bytes_eq op (codes "register") then register_of d
+    else if bytes_eq op (codes "replace") then replace_of d
     else if bytes_eq op (codes "call") then call_of d
     else if bytes_eq op (codes "batch") then batch_of d
     else if bytes_eq op (codes "grow") then grow_of d

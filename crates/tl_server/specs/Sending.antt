@@ -34,3 +34,7 @@ IsCounted n s = s.failures ≡ (if s.failed then n + 1 else n)
 pub record Writes (old new : Sending) (text : List ℕ) : Type 0 where
   pub sends : (base : Option (List ℕ)) (total : List ℕ) → Sent base total old → Sent base (total ++ text) new
   pub counts : (n : ℕ) → IsCounted n old → IsCounted n new
+
+-- This text was handed over: so far as it isn't gathered for the sink, the sink has it.
+abbrev pub Puts : {K : Type 0} → (K → Option (List ℕ)) → (K → ℕ) → K → OutboxValue → K → OutboxValue → List ℕ → Type 0
+Puts output failures sink box sink' box' text = Writes (sending (output sink) (failures sink) box) (sending (output sink') (failures sink') box') text

@@ -4,7 +4,7 @@ use Rattle.std.specs.declared.alloc.Global.{Global}
 use Rattle.tl_instr.specs.Codes.{CodeValue}
 use Rattle.tl_budget.specs.declared.limits.Bounds.{Bounds}
 use Rattle.tl_verify.specs.Procedure.{AreBounds}
-use Rattle.tl_procedures.specs.Names.{Named, is_name, AreFreeAfter, IsFirstRefused}
+use Rattle.tl_procedures.specs.Names.{Named, is_name, AreFreeAfter, AreKnown, IsFirstRefused}
 use Rattle.tl_procedures.specs.declared.fault.NamingFault.TheVariants as naming
 use Rattle.tl_procedures.specs.declared.fault.NamingFault.TheVariants.{BadName}
 use Rattle.tl_procedures.specs.declared.request.Request.{Request}
@@ -19,20 +19,22 @@ use Rattle.tl_workers.specs.declared.session.Did.{Did}
 use Rattle.tl_workers.specs.Kept.{call_of, AnswersEach, asked_of, gots_of}
 use Rattle.tl_table.specs.declared.epoch.TheConstants.{MAX_EPOCHS}
 use Rattle.tl_workers.specs.Refusals.{IsCallRefusal, AreCallRefusals, IsSealRefused, IsRestedSealRefused}
-use Rattle.tl_generations.specs.Generations.{LegacyValue, IsGrown}
+use Rattle.tl_generations.specs.Generations.{LegacyValue, IsGrown, IsReplaced}
 use Rattle.tl_generations.specs.Growth.{IsGrowthFault}
 use Rattle.tl_generations.specs.declared.growth.GrowthFault.{GrowthFault}
 use Rattle.tl_generations.specs.declared.growth.GrowthFault.TheVariants as growth
 use Rattle.tl_server.specs.declared.texts.NamedBounds.{NamedBounds}
 use Rattle.tl_server.specs.declared.texts.TextFault.{TextFault}
 use Rattle.tl_server.specs.declared.texts.TextFault.TheVariants as fault
+use Rattle.tl_server.specs.declared.texts.ReplaceFault.{ReplaceFault}
+use Rattle.tl_server.specs.declared.texts.ReplaceFault.TheVariants as replace
 use Rattle.tl_server.specs.declared.fault.LineFault.{LineFault}
 use Rattle.tl_server.specs.declared.fault.LineFault.TheVariants.{NotRequest}
 use Rattle.tl_server.specs.declared.fault.KeyFault.TheVariants.{NoStore}
 use Rattle.tl_server.specs.Faults.{numbers_of, key_numbers_of}
-use Rattle.tl_server.specs.Requests.{LineValue, Registers, RegistersText, Calls, CallsOnce, Batches, Grows, Seals, Closes, IsRequest, IsLineFault}
+use Rattle.tl_server.specs.Requests.{LineValue, Registers, RegistersText, Replaces, Calls, CallsOnce, Batches, Grows, Seals, Closes, IsRequest, IsLineFault}
 use Rattle.tl_keys.specs.Kept.{KeptValue}
-use Rattle.tl_server.specs.Answers.{one_text, kept_text, error_text, batch_text, register_text, text_register_text, growth_text, seal_text, closed_text, line_text}
+use Rattle.tl_server.specs.Answers.{one_text, kept_text, error_text, batch_text, register_text, text_register_text, replace_text, growth_text, seal_text, closed_text, line_text}
 
 -- ---- a registration
 
@@ -159,9 +161,31 @@ IsGrowthAnswer true parents out =
     (answer : Result ℕ GrowthFault) × GrowthOutcome parents answer × (answer ≢ Err growth.Memory) × (out ≡ line_text (growth_text answer))
 IsGrowthAnswer false parents out = out ≡ line_text (error_text (numbers_of NotRequest))
 
+-- ---- procedures in the place of others
+
+-- why the procedures of a text don't take the place of others: the text has a fault, it has too many procedures, or there is none
+-- with the name of one
+abbrev pub IsReplaceFault : TextReader → List ℕ → ReplaceFault → Type 0
+IsReplaceFault reader text (replace.Text numbers) = reader.lacks text numbers.items
+IsReplaceFault reader text (replace.Name f) = (all : List Named) × reader.has text all × IsFirstRefused [] all f
+IsReplaceFault reader text replace.NoProcedure = (all : List Named) × reader.has text all × ((before : List Named) × (AreKnown before all → ⊥))
+
+-- all procedures of the text, with these bounds, took the place of those with their names; or why none did
+abbrev pub ReplaceOutcome : TextReader → List ℕ → Result (Vec NamedBounds Global) ReplaceFault → Type 0
+ReplaceOutcome reader text (Ok bounds) =
+    (all : List Named) × reader.has text all × AreBoundsOf all bounds.items × ((old : LegacyValue) × (new : LegacyValue) × IsReplaced old all new)
+ReplaceOutcome reader text (Err e) = IsReplaceFault reader text e
+
+-- the result, if engines take over from one another and texts are read; otherwise the answer to a line that is no request
+abbrev pub IsReplaceAnswer : Bool → TextReading → List ℕ → List ℕ → Type 0
+IsReplaceAnswer true (ReadBy reader) text out =
+    (answer : Result (Vec NamedBounds Global) ReplaceFault) × ReplaceOutcome reader text answer × (out ≡ line_text (replace_text answer))
+IsReplaceAnswer true NoTexts text out = out ≡ line_text (error_text (numbers_of NotRequest))
+IsReplaceAnswer false reads text out = out ≡ line_text (error_text (numbers_of NotRequest))
+
 -- ---- lines, where the epochs with such numbers may be sealed
 
--- what the server can do: whether its engines seal their epochs by themselves, whether nodes can be appended to its tree, who reads
+-- what the server can do: whether its engines seal their epochs by themselves, whether nodes can be appended to its tree and procedures replaced, who reads
 -- texts of procedures, and what is done about keys
 pub record Ways : Type 1 where
   pub seals : Bool
@@ -174,6 +198,7 @@ abbrev pub AnswersRequest : Ways → (ℕ → Type 0) → LineValue → List Did
 AnswersRequest ways may_seal (Registers name text) gained out =
     (gained ≡ []) × ((answer : Result Bounds RegisterFault) × RegisterOutcome (name, text) answer × (out ≡ line_text (register_text answer)))
 AnswersRequest ways may_seal (RegistersText text) gained out = (gained ≡ []) × IsTextAnswer ways.reads text out
+AnswersRequest ways may_seal (Replaces text) gained out = (gained ≡ []) × IsReplaceAnswer ways.grows ways.reads text out
 AnswersRequest ways may_seal (Calls name args) gained out = IsCallAnswer ways.seals (name, args) gained out
 AnswersRequest ways may_seal (CallsOnce name args key) gained out = IsOnceAnswer ways.keys ways.seals (name, args) gained out
 AnswersRequest ways may_seal (Batches calls workers) gained out = (requests : List Request) × (map request_form requests ≡ calls) × IsBatchAnswer ways.seals requests gained out

@@ -3,13 +3,13 @@
 ghost use Rattle.std.specs.Prelude.{◌≡◌, ◌==◌, ℕ, ℤ, List, [], ◌∷◌, ◌+◌, ◌++◌, map, codes, decimal, Result, if◌then◌else◌};
 ghost use Rattle.std.specs.Fmt.{signed_decimal};
 ghost use Rattle.tl_tree.specs.Writing.{list_text};
-ghost use Rattle.tl_server.specs.Sending.{sending, Writes};
+ghost use Rattle.tl_server.specs.Sending.{Puts};
 ghost use Rattle.tl_server.specs.Outcomes.{later, later_answer};
 ghost use Rattle.tl_server.specs.Answers.{comma_before, epoch_text, head_text, stored_text, call_text, error_text, one_text, batch_text, closed_text, line_text};
 
 use crate::device::Sink;
 use crate::outbox::Outbox;
-use crate::texts::{NamedBounds, TextFault};
+use crate::texts::{NamedBounds, ReplaceFault, TextFault};
 use itoa::{Buffer, Integer};
 use tl_budget::Bounds;
 use tl_generations::GrowthFault;
@@ -24,7 +24,7 @@ pub(crate) trait Part {
     ghost text: { ℕ → Self → List ℕ };
 
     fn put<K: Sink>(&self, outbox: &mut Outbox, sink: &mut K, base: u32)
-        ensures { Writes (sending (K.output sink.old) (K.failures sink.old) outbox.old) (sending (K.output sink.new) (K.failures sink.new) outbox.new) (text base self.now) };
+        ensures { Puts K.output K.failures sink.old outbox.old sink.new outbox.new (text base self.now) };
 }
 
 impl Part for u64 {
@@ -141,6 +141,23 @@ impl Part for Result<Vec<NamedBounds>, TextFault> {
     }
 }
 
+impl Part for Result<Vec<NamedBounds>, ReplaceFault> {
+    ghost use Rattle.tl_server.specs.Answers.{replace_text};
+
+    ghost text = { λ _ answer. replace_text answer };
+
+    fn put<K: Sink>(&self, outbox: &mut Outbox, sink: &mut K, base: u32) {
+        match self {
+            Ok(bounds) => {
+                outbox.put(sink, b"{\"replaced\":");
+                put_list(outbox, sink, base, bounds.as_slice());
+                outbox.put(sink, b"}");
+            }
+            Err(fault) => put_error(outbox, sink, fault.numbers().as_slice()),
+        }
+    }
+}
+
 impl Part for Result<Vec<Result<Receipt, Refusal>>, Refusal> {
     ghost use Rattle.tl_server.specs.Outcomes.{batch_answer_text};
 
@@ -191,7 +208,7 @@ impl Part for Result<u16, GrowthFault> {
 
 /// A number.
 pub(crate) fn put_number<I: Integer, K: Sink>(outbox: &mut Outbox, sink: &mut K, number: I)
-    ensures { Writes (sending (K.output sink.old) (K.failures sink.old) outbox.old) (sending (K.output sink.new) (K.failures sink.new) outbox.new) (I.text number) }
+    ensures { Puts K.output K.failures sink.old outbox.old sink.new outbox.new (I.text number) }
 {
     let mut buffer = Buffer::new();
     outbox.put(sink, buffer.format(number).as_bytes());
@@ -199,7 +216,7 @@ pub(crate) fn put_number<I: Integer, K: Sink>(outbox: &mut Outbox, sink: &mut K,
 
 // Puts a comma, except before the first item.
 fn put_comma<K: Sink>(outbox: &mut Outbox, sink: &mut K, index: usize)
-    ensures { Writes (sending (K.output sink.old) (K.failures sink.old) outbox.old) (sending (K.output sink.new) (K.failures sink.new) outbox.new) (comma_before index) }
+    ensures { Puts K.output K.failures sink.old outbox.old sink.new outbox.new (comma_before index) }
 {
     if index == 0 {
         return;
@@ -208,7 +225,7 @@ fn put_comma<K: Sink>(outbox: &mut Outbox, sink: &mut K, index: usize)
 }
 
 fn put_list<T: Part, K: Sink>(outbox: &mut Outbox, sink: &mut K, base: u32, items: &[T])
-    ensures { Writes (sending (K.output sink.old) (K.failures sink.old) outbox.old) (sending (K.output sink.new) (K.failures sink.new) outbox.new) (list_text (T.text base) items.now) }
+    ensures { Puts K.output K.failures sink.old outbox.old sink.new outbox.new (list_text (T.text base) items.now) }
 {
     outbox.put(sink, b"[");
     for (index, item) in items.iter().enumerate() {
@@ -220,7 +237,7 @@ fn put_list<T: Part, K: Sink>(outbox: &mut Outbox, sink: &mut K, base: u32, item
 
 // `,"epoch":e`, except for the first epoch of all
 fn put_epoch<K: Sink>(outbox: &mut Outbox, sink: &mut K, epoch: u64)
-    ensures { Writes (sending (K.output sink.old) (K.failures sink.old) outbox.old) (sending (K.output sink.new) (K.failures sink.new) outbox.new) (epoch_text epoch) }
+    ensures { Puts K.output K.failures sink.old outbox.old sink.new outbox.new (epoch_text epoch) }
 {
     if epoch == 0 {
         return;
@@ -231,7 +248,7 @@ fn put_epoch<K: Sink>(outbox: &mut Outbox, sink: &mut K, epoch: u64)
 
 // `{"call":c,"reply":`
 fn put_head<K: Sink>(outbox: &mut Outbox, sink: &mut K, call: i64)
-    ensures { Writes (sending (K.output sink.old) (K.failures sink.old) outbox.old) (sending (K.output sink.new) (K.failures sink.new) outbox.new) (head_text call) }
+    ensures { Puts K.output K.failures sink.old outbox.old sink.new outbox.new (head_text call) }
 {
     outbox.put(sink, b"{\"call\":");
     put_number(outbox, sink, call);
@@ -240,7 +257,7 @@ fn put_head<K: Sink>(outbox: &mut Outbox, sink: &mut K, call: i64)
 
 // `,"stored":e}`
 fn put_stored<K: Sink>(outbox: &mut Outbox, sink: &mut K, epoch: i64)
-    ensures { Writes (sending (K.output sink.old) (K.failures sink.old) outbox.old) (sending (K.output sink.new) (K.failures sink.new) outbox.new) (stored_text epoch) }
+    ensures { Puts K.output K.failures sink.old outbox.old sink.new outbox.new (stored_text epoch) }
 {
     outbox.put(sink, b",\"stored\":");
     put_number(outbox, sink, epoch);
@@ -249,7 +266,7 @@ fn put_stored<K: Sink>(outbox: &mut Outbox, sink: &mut K, epoch: i64)
 
 // `{"call":c,"reply":[..]}`, with the epoch in between from the second one on
 fn put_call<K: Sink>(outbox: &mut Outbox, sink: &mut K, base: u32, receipt: &Receipt)
-    ensures { Writes (sending (K.output sink.old) (K.failures sink.old) outbox.old) (sending (K.output sink.new) (K.failures sink.new) outbox.new) (call_text (later base receipt.now)) }
+    ensures { Puts K.output K.failures sink.old outbox.old sink.new outbox.new (call_text (later base receipt.now)) }
 {
     outbox.put(sink, b"{\"call\":");
     put_number(outbox, sink, receipt.call);
@@ -261,7 +278,7 @@ fn put_call<K: Sink>(outbox: &mut Outbox, sink: &mut K, base: u32, receipt: &Rec
 
 // `{"error":[numbers]}`
 fn put_error<K: Sink>(outbox: &mut Outbox, sink: &mut K, numbers: &[u64])
-    ensures { Writes (sending (K.output sink.old) (K.failures sink.old) outbox.old) (sending (K.output sink.new) (K.failures sink.new) outbox.new) (error_text numbers.now) }
+    ensures { Puts K.output K.failures sink.old outbox.old sink.new outbox.new (error_text numbers.now) }
 {
     outbox.put(sink, b"{\"error\":");
     put_list(outbox, sink, 0, numbers);
@@ -275,7 +292,7 @@ fn put_batch<K: Sink>(
     base: u32,
     answers: &[Result<Receipt, Refusal>],
 )
-    ensures { Writes (sending (K.output sink.old) (K.failures sink.old) outbox.old) (sending (K.output sink.new) (K.failures sink.new) outbox.new) (batch_text (map (later_answer base) answers.now)) }
+    ensures { Puts K.output K.failures sink.old outbox.old sink.new outbox.new (batch_text (map (later_answer base) answers.now)) }
 {
     outbox.put(sink, b"{\"batch\":");
     put_list(outbox, sink, base, answers);
@@ -284,7 +301,7 @@ fn put_batch<K: Sink>(
 
 /// The line for the result of a request.
 pub(crate) fn put_line<T: Part, K: Sink>(outbox: &mut Outbox, sink: &mut K, base: u32, answer: &T)
-    ensures { Writes (sending (K.output sink.old) (K.failures sink.old) outbox.old) (sending (K.output sink.new) (K.failures sink.new) outbox.new) (line_text (T.text base answer.now)) }
+    ensures { Puts K.output K.failures sink.old outbox.old sink.new outbox.new (line_text (T.text base answer.now)) }
 {
     answer.put(outbox, sink, base);
     outbox.put(sink, b"\n");
@@ -292,7 +309,7 @@ pub(crate) fn put_line<T: Part, K: Sink>(outbox: &mut Outbox, sink: &mut K, base
 
 /// The line for a fault or a refusal.
 pub(crate) fn put_error_line<K: Sink>(outbox: &mut Outbox, sink: &mut K, numbers: &[u64])
-    ensures { Writes (sending (K.output sink.old) (K.failures sink.old) outbox.old) (sending (K.output sink.new) (K.failures sink.new) outbox.new) (line_text (error_text numbers.now)) }
+    ensures { Puts K.output K.failures sink.old outbox.old sink.new outbox.new (line_text (error_text numbers.now)) }
 {
     put_error(outbox, sink, numbers);
     outbox.put(sink, b"\n");
@@ -300,7 +317,7 @@ pub(crate) fn put_error_line<K: Sink>(outbox: &mut Outbox, sink: &mut K, numbers
 
 /// The line that ends a connection.
 pub(crate) fn put_closed_line<K: Sink>(outbox: &mut Outbox, sink: &mut K)
-    ensures { Writes (sending (K.output sink.old) (K.failures sink.old) outbox.old) (sending (K.output sink.new) (K.failures sink.new) outbox.new) (line_text closed_text) }
+    ensures { Puts K.output K.failures sink.old outbox.old sink.new outbox.new (line_text closed_text) }
 {
     outbox.put(sink, b"{\"closed\":true}");
     outbox.put(sink, b"\n");

@@ -4,7 +4,7 @@ ghost use Rattle.std.specs.Prelude.{◌≡◌, ◌⊎◌, ℕ, List, []};
 ghost use Rattle.tl_workers.specs.declared.session.Did.{Did};
 ghost use Rattle.tl_server.specs.Requests.{line_view, IsRequest};
 ghost use Rattle.tl_server.specs.Outcomes.{IsAsked};
-ghost use Rattle.tl_server.specs.Sending.{sending, Writes};
+ghost use Rattle.tl_server.specs.Sending.{Puts};
 ghost use Rattle.tl_server.specs.Served.{IsRefused, AnswersRequest, IsAnswer};
 
 use crate::answer::{put_closed_line, put_error_line};
@@ -31,7 +31,7 @@ pub(crate) fn answer_line<R: Threads + Wait + Sync, K: Sink, V: Service>(
     scratch: &mut Scratch,
 ) -> bool
     ensures { (gained : List Did) × (out : List ℕ) × V.gains visitor.old visitor.new gained
-        × Writes (sending (K.output sink.old) (K.failures sink.old) outbox.old) (sending (K.output sink.new) (K.failures sink.new) outbox.new) out
+        × Puts K.output K.failures sink.old outbox.old sink.new outbox.new out
         × IsAnswer (V.ways service.now) (V.may_seal visitor.old) line.now result gained out }
 {
     match read_request_with(alloc, line, scratch) {
@@ -62,7 +62,7 @@ fn answer_request<R: Threads + Wait + Sync, K: Sink, V: Service>(
 )
     requires { IsAsked (line_view request.now) }
     ensures { (gained : List Did) × (out : List ℕ) × V.gains visitor.old visitor.new gained
-        × Writes (sending (K.output sink.old) (K.failures sink.old) outbox.old) (sending (K.output sink.new) (K.failures sink.new) outbox.new) out
+        × Puts K.output K.failures sink.old outbox.old sink.new outbox.new out
         × (IsRefused gained out ⊎ AnswersRequest (V.ways service.now) (V.may_seal visitor.old) (line_view request.now) gained out) }
 {
     match service.perform(rt, alloc, visitor, request) {

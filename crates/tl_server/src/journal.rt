@@ -7,6 +7,7 @@ use crate::copying::CopyRefusal;
 use std::alloc::Global;
 use std::sync::Wait;
 use tl_keys::Kept;
+use tl_procedures::Procedures;
 use tl_workers::Engine;
 
 /// What was done isn't stored, and won't be.
@@ -62,6 +63,9 @@ pub trait Journal {
     /// Takes over that nodes of these parents were appended to the tree, before the first epoch of the next engine, which has that number.
     fn grow(&self, rt: &impl Wait, alloc: Global, parents: &[i64], epoch: u32);
 
+    /// Takes over that these procedures were put in the place of those with their names, before the first epoch of the next engine.
+    fn replace(&self, rt: &impl Wait, alloc: Global, others: &Procedures);
+
     /// Waits until all that it took over is stored. An error if it isn't and won't be.
     fn settle(&self, rt: &impl Wait, alloc: Global) -> Result<(), Unstored>
         ensures { is_storing self.now ≡ false → IsOk result };
@@ -101,6 +105,8 @@ impl Journal for NoJournal {
     fn release(&self, _rt: &impl Wait, _alloc: Global, _engine: &Engine, _session: u32) {}
 
     fn grow(&self, _rt: &impl Wait, _alloc: Global, _parents: &[i64], _epoch: u32) {}
+
+    fn replace(&self, _rt: &impl Wait, _alloc: Global, _others: &Procedures) {}
 
     fn settle(&self, _rt: &impl Wait, _alloc: Global) -> Result<(), Unstored> {
         Ok(())

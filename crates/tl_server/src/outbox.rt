@@ -1,7 +1,7 @@
 // Answers on their way to a sink.
 
 ghost use Rattle.std.specs.Prelude.{◌≡◌, ◌≤◌, ◌+◌, [], ◌++◌, length, false, IfOk};
-ghost use Rattle.tl_server.specs.Sending.{sending, Writes};
+ghost use Rattle.tl_server.specs.Sending.{Writes, Puts};
 
 use crate::device::{Sink, write_all};
 use std::alloc::{AllocError, Global};
@@ -75,7 +75,7 @@ impl Outbox {
     // Writes a text at once, when nothing is gathered.
     fn send<K: Sink>(&mut self, sink: &mut K, text: &[u8])
         requires { self.old.kept ≡ [] }
-        ensures { Writes (sending (K.output sink.old) (K.failures sink.old) self.old) (sending (K.output sink.new) (K.failures sink.new) self.new) text.now }
+        ensures { Puts K.output K.failures sink.old self.old sink.new self.new text.now }
     {
         if self.failed {
             return;
@@ -85,7 +85,7 @@ impl Outbox {
 
     /// Writes what is gathered.
     pub(crate) fn flush<K: Sink>(&mut self, sink: &mut K)
-        ensures writes { Writes (sending (K.output sink.old) (K.failures sink.old) self.old) (sending (K.output sink.new) (K.failures sink.new) self.new) [] }
+        ensures writes { Puts K.output K.failures sink.old self.old sink.new self.new [] }
         ensures none { self.new.kept ≡ [] }
     {
         if self.failed {
@@ -98,7 +98,7 @@ impl Outbox {
 
     /// Hands a text over.
     pub(crate) fn put<K: Sink>(&mut self, sink: &mut K, text: &[u8])
-        ensures { Writes (sending (K.output sink.old) (K.failures sink.old) self.old) (sending (K.output sink.new) (K.failures sink.new) self.new) text.now }
+        ensures { Puts K.output K.failures sink.old self.old sink.new self.new text.now }
     {
         if text.len() <= self.room() {
             self.keep(text);

@@ -2,13 +2,13 @@
 
 ghost use Rattle.tl_server.specs.Answers.{line_text};
 ghost use Rattle.tl_server.specs.Outcomes.{outcome_text};
-ghost use Rattle.tl_server.specs.Sending.{sending, Writes};
+ghost use Rattle.tl_server.specs.Sending.{Puts};
 
 use crate::answer::{put_error_line, put_line};
 use crate::device::Sink;
 use crate::fault::{KeyFault, LineFault};
 use crate::outbox::Outbox;
-use crate::texts::{NamedBounds, TextFault};
+use crate::texts::{NamedBounds, ReplaceFault, TextFault};
 use tl_budget::Bounds;
 use tl_generations::GrowthFault;
 use tl_json::RegisterFault;
@@ -23,6 +23,8 @@ pub enum RequestOutcome {
     Registered(Result<Bounds, RegisterFault>),
     /// Of the registration of a text's procedures: the name and the bounds of each, in its order.
     RegisteredAll(Result<Vec<NamedBounds>, TextFault>),
+    /// Of procedures in the place of others: the name and the bounds of each, in the order of the text.
+    Replaced(Result<Vec<NamedBounds>, ReplaceFault>),
     /// Of a call.
     Called(Result<Receipt, Refusal>),
     /// Of a call whose key another had before: what came of that one.
@@ -50,12 +52,13 @@ pub struct Done {
 
 /// Hands the answer to a request over. Its epochs count those of the engines before.
 pub(crate) fn put_outcome<K: Sink>(outbox: &mut Outbox, sink: &mut K, done: &Done)
-    ensures { Writes (sending (K.output sink.old) (K.failures sink.old) outbox.old) (sending (K.output sink.new) (K.failures sink.new) outbox.new) (line_text (outcome_text done.now.base done.now.outcome)) }
+    ensures { Puts K.output K.failures sink.old outbox.old sink.new outbox.new (line_text (outcome_text done.now.base done.now.outcome)) }
 {
     let base = done.base;
     match &done.outcome {
         RequestOutcome::Registered(answer) => put_line(outbox, sink, base, answer),
         RequestOutcome::RegisteredAll(answer) => put_line(outbox, sink, base, answer),
+        RequestOutcome::Replaced(answer) => put_line(outbox, sink, base, answer),
         RequestOutcome::Called(answer) => put_line(outbox, sink, base, answer),
         RequestOutcome::Recalled(kept) => put_line(outbox, sink, base, kept),
         RequestOutcome::KeyRefused(fault) => {

@@ -5,7 +5,7 @@ ghost use Rattle.tl_workers.specs.declared.batch.TheConstants.{MAX_REQUESTS, MAX
 ghost use Rattle.serde_json.specs.View.{view};
 ghost use Rattle.tl_json.specs.Requests.{request_form};
 ghost use Rattle.tl_tree.specs.Reading.{integer_of, integers_of};
-ghost use Rattle.tl_server.specs.Requests.{line_view, text_at, has_members, register_text_of, register_of, request_at, key_of, call_once_of, call_of, workers_of, batch_of, grow_of, request_with, line_request_of, IsRequest, IsLineFault};
+ghost use Rattle.tl_server.specs.Requests.{line_view, text_at, has_members, register_text_of, register_of, replace_of, request_at, key_of, call_once_of, call_of, workers_of, batch_of, grow_of, request_with, line_request_of, IsRequest, IsLineFault};
 
 use crate::batch::BatchRequest;
 use crate::fault::LineFault;
@@ -36,6 +36,8 @@ pub enum LineRequest {
     Register(ProcedureText),
     /// To register all procedures of a text of the procedure language.
     RegisterText(String),
+    /// To put all procedures of a text of the procedure language in the place of those with their names.
+    Replace(String),
     /// To run a call.
     Call(Request),
     /// To run a call unless one had its key, and to say what came of the one that had it.
@@ -97,6 +99,19 @@ fn register_of_value(alloc: Global, value: &Value) -> Result<Option<LineRequest>
         name: String::from_str(alloc, name)?,
         text: String::from_str(alloc, text)?,
     })))
+}
+
+// `{"op":"replace","text":text}`
+fn replace_of_value(alloc: Global, value: &Value) -> Result<Option<LineRequest>, AllocError>
+    ensures { IfOk result (λ found. option_map line_view found ≡ replace_of (view value.now)) }
+{
+    if !has_members(value, 2) {
+        return Ok(None);
+    }
+    let Some(text) = text_at(value, "text") else {
+        return Ok(None);
+    };
+    Ok(Some(LineRequest::Replace(String::from_str(alloc, text)?)))
 }
 
 // The name and the arguments of a call.
@@ -224,6 +239,7 @@ fn request_with_op(
 {
     match op {
         "register" => register_of_value(alloc, value),
+        "replace" => replace_of_value(alloc, value),
         "call" => call_of_value(alloc, value),
         "batch" => batch_of_value(alloc, value),
         "grow" => grow_of_value(alloc, value),
@@ -251,7 +267,7 @@ fn request_of_value(alloc: Global, value: &Value) -> Result<Option<LineRequest>,
 }
 
 /// What a line, without its LF, asks for. It is a JSON object with the members shown and no others:
-/// `{"asm":text,"name":name,"op":"register"}`, `{"op":"register","text":text}`, `{"args":args,"op":"call","proc":name}`,
+/// `{"asm":text,"name":name,"op":"register"}`, `{"op":"register","text":text}`, `{"op":"replace","text":text}`, `{"args":args,"op":"call","proc":name}`,
 /// `{"args":args,"key":key,"op":"call","proc":name}` with a key of 1 to 64 bytes, `{"calls":[[name,args],..],"op":"batch","workers":w}` with 1 to 256 calls and 1 to 16 workers,
 /// `{"op":"grow","parents":parents}` with one parent at least, `{"op":"seal"}`, or `{"op":"close"}`. The arguments and the parents are
 /// lists of signed 64-bit integers.

@@ -26,8 +26,8 @@ pub trait Service {
     // What the visitor asked for and got between two moments.
     ghost gains: { Self.Visitor → Self.Visitor → List Did → Type 0 };
 
-    // What it can do: whether its engines seal their epochs by themselves, whether nodes can be appended to its tree, who reads texts
-    // of procedures, and what is done about keys.
+    // What it can do: whether its engines seal their epochs by themselves, whether nodes can be appended to its tree and procedures
+    // replaced, who reads texts of procedures, and what is done about keys.
     ghost ways: { Self → Ways };
 
     // Which epochs may be sealed from this moment on, by their numbers.
@@ -94,9 +94,10 @@ pub(crate) fn act<R: Threads + Wait + Sync>(
             let (requests, workers) = (&batch.requests, batch.workers);
             RequestOutcome::Batched(engine.batch(rt, alloc, session, requests, workers, &NoGate))
         }
-        LineRequest::RegisterText(_) | LineRequest::CallOnce(_) | LineRequest::Grow(_) => {
-            RequestOutcome::Unknown
-        }
+        LineRequest::RegisterText(_)
+        | LineRequest::Replace(_)
+        | LineRequest::CallOnce(_)
+        | LineRequest::Grow(_) => RequestOutcome::Unknown,
         LineRequest::Seal => RequestOutcome::Sealed(engine.seal(rt, alloc)),
         LineRequest::Close => unreachable!(),
     }

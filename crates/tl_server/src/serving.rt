@@ -2,7 +2,7 @@
 
 ghost use Rattle.std.specs.Prelude.{◌≡◌, ◌+◌, [], ◌⊎◌, true, Some, None, IfOk, OnOk, IsErrOf};
 ghost use Rattle.tl_server.specs.Lines.{HasNoLf};
-ghost use Rattle.tl_server.specs.Sending.{sending, Writes};
+ghost use Rattle.tl_server.specs.Sending.{Writes, Puts};
 ghost use Rattle.tl_server.specs.Runs.{AnswersAll, AnswersWhole, AnswersPart, GainsWholeCalls};
 ghost use Rattle.tl_server.specs.declared.fault.ServeFault.TheVariants.{ReadFailed, WriteFailed, Memory};
 
@@ -19,7 +19,7 @@ use tl_tokens::Scratch;
 
 // Writes what is gathered, unless there is a line that can be answered first.
 fn settle<K: Sink>(reader: &Reader, outbox: &mut Outbox, sink: &mut K)
-    ensures writes { Writes (sending (K.output sink.old) (K.failures sink.old) outbox.old) (sending (K.output sink.new) (K.failures sink.new) outbox.new) [] }
+    ensures writes { Puts K.output K.failures sink.old outbox.old sink.new outbox.new [] }
     ensures none { HasNoLf reader.now.left → outbox.new.kept ≡ [] }
 {
     if reader.has_line() {

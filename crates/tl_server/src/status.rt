@@ -3,7 +3,7 @@
 ghost use Rattle.std.specs.Prelude.{◌≡◌};
 ghost use Rattle.tl_server.specs.Answers.{line_text};
 ghost use Rattle.tl_server.specs.Reports.{receipts_of, registered_of, status_text};
-ghost use Rattle.tl_server.specs.Sending.{sending, Writes};
+ghost use Rattle.tl_server.specs.Sending.{Puts};
 
 use crate::answer::put_number;
 use crate::copying::CopyRefusal;
@@ -66,6 +66,7 @@ fn receipts(outcome: &RequestOutcome) -> u64
         | RequestOutcome::KeyRefused(_)
         | RequestOutcome::Registered(_)
         | RequestOutcome::RegisteredAll(_)
+        | RequestOutcome::Replaced(_)
         | RequestOutcome::Sealed(_)
         | RequestOutcome::Grown(_)
         | RequestOutcome::Unknown => 0,
@@ -80,6 +81,7 @@ fn registered(outcome: &RequestOutcome) -> u64
         RequestOutcome::Registered(answer) => u64::from(answer.is_ok()),
         RequestOutcome::RegisteredAll(Ok(all)) => all.len() as u64,
         RequestOutcome::RegisteredAll(Err(_))
+        | RequestOutcome::Replaced(_)
         | RequestOutcome::Called(_)
         | RequestOutcome::Recalled(_)
         | RequestOutcome::KeyRefused(_)
@@ -126,7 +128,7 @@ impl Tally {
 
 /// The line that says how far a server is.
 pub(crate) fn put_status_line<K: Sink>(outbox: &mut Outbox, sink: &mut K, status: &Status)
-    ensures { Writes (sending (K.output sink.old) (K.failures sink.old) outbox.old) (sending (K.output sink.new) (K.failures sink.new) outbox.new) (line_text (status_text status.now)) }
+    ensures { Puts K.output K.failures sink.old outbox.old sink.new outbox.new (line_text (status_text status.now)) }
 {
     outbox.put(sink, b"{\"epoch\":");
     put_number(outbox, sink, status.epoch);

@@ -4,7 +4,8 @@ ghost use Rattle.std.specs.Prelude.{◌≡◌, ◌+◌};
 
 use crate::device::{Failure, Sink};
 use crate::journal::Journal;
-use crate::relay::{Keeper, Relay};
+use crate::keeper::Keeper;
+use crate::relay::Relay;
 use crate::texts::Texts;
 use std::alloc::Global;
 use std::sync::Wait;

@@ -1,15 +1,17 @@
 // Texts of procedures that lines bring.
 
-ghost use Rattle.std.specs.Prelude.{◌≡◌, ℕ, List, IfOk, IfErr};
+ghost use Rattle.std.specs.Prelude.{◌≡◌, ◌≢◌, ℕ, List, IfOk, IfErr, IfSome};
 ghost use Rattle.tl_procedures.specs.Names.{Named};
 ghost use Rattle.tl_server.specs.Served.{AreBoundsOf, TextOutcome, IsUnreadable};
+ghost use Rattle.tl_server.specs.Replacing.{HasRead};
+ghost use Rattle.tl_procedures.specs.declared.fault.NamingFault.TheVariants as naming;
 ghost use Rattle.tl_server.specs.declared.texts.TextFault.TheVariants as fault;
 
 use arrayvec::ArrayVec;
 use std::alloc::{AllocError, Global};
 use std::sync::Wait;
 use tl_budget::Bounds;
-use tl_procedures::{NamedProcedure, NamingFault};
+use tl_procedures::{NamedProcedure, NamingFault, Procedures};
 use tl_workers::Engine;
 
 /// The name of a procedure, and the most that its calls do.
@@ -43,6 +45,36 @@ impl TextFault {
             TextFault::Memory => {
                 let mut numbers = ArrayVec::new();
                 numbers.push(990);
+                numbers
+            }
+        }
+    }
+}
+
+/// Why the procedures of a text aren't put in the place of others.
+#[derive(Debug, Drop)]
+pub enum ReplaceFault {
+    /// The text has a fault, whose numbers end with its line and its column.
+    Text(ArrayVec<u64, 3>),
+    /// 613: the text has more procedures than there may be.
+    Name(NamingFault),
+    /// 601: there is no procedure with the name of one.
+    NoProcedure,
+}
+
+impl ReplaceFault {
+    ghost use Rattle.tl_server.specs.Faults.{replace_numbers_of};
+
+    /// The fault's numbers.
+    pub fn numbers(&self) -> ArrayVec<u64, 3>
+        ensures { result.items ≡ replace_numbers_of self.now }
+    {
+        match self {
+            ReplaceFault::Text(numbers) => copied(numbers),
+            ReplaceFault::Name(fault) => fault.numbers(),
+            ReplaceFault::NoProcedure => {
+                let mut numbers = ArrayVec::new();
+                numbers.push(601);
                 numbers
             }
         }
@@ -116,4 +148,41 @@ pub(crate) fn register_text<T: Texts>(
     let bounds = bounds_of(alloc, procedures.as_slice())?;
     engine.register_all(rt, alloc, procedures)?;
     Ok(bounds)
+}
+
+/// The procedures of a text under their names, and the name and the bounds of each.
+#[derive(Debug, Drop)]
+pub(crate) struct TextProcedures {
+    pub(crate) procedures: Procedures,
+    pub(crate) bounds: Vec<NamedBounds>,
+}
+
+/// The procedures of a text; the text's fault, or 613. `None` if memory is refused.
+pub(crate) fn read_procedures<T: Texts>(
+    alloc: Global,
+    text: &str,
+) -> Option<Result<TextProcedures, ReplaceFault>>
+    ensures { IfSome result (HasRead (record { has = T.has; lacks = T.lacks }) text.now) }
+{
+    let named = match T::procedures_of(alloc, text) {
+        Ok(named) => named,
+        Err(TextFault::Text(numbers)) => return Some(Err(ReplaceFault::Text(numbers))),
+        Err(TextFault::Name(_)) => unreachable!(),
+        Err(TextFault::Memory) => return None,
+    };
+    let bounds = bounds_of(alloc, named.as_slice()).ok()?;
+    match Procedures::new(alloc).and_all(alloc, named) {
+        Ok(procedures) => Some(Ok(TextProcedures { procedures, bounds })),
+        Err(fault) => Some(Err(name_fault(fault)?)),
+    }
+}
+
+// Why the procedures of a text aren't taken under their names. `None` if memory was refused.
+fn name_fault(fault: NamingFault) -> Option<ReplaceFault>
+    ensures { IfSome result (λ f. (f ≡ ReplaceFault.Name fault) × (fault ≢ naming.Memory)) }
+{
+    match fault {
+        NamingFault::Memory => None,
+        fault => Some(ReplaceFault::Name(fault)),
+    }
 }

@@ -107,32 +107,6 @@ one_form rows those i row is within at =
       inside,
     )
 
--- the forms of one row more
-pub forms_more : (rows : List ProcedureRow) (i : ℕ) (row : ProcedureRow) (old new : List Named) → i < length rows → row ≡ get_or rows i row → map procedure_form (take i rows) ≡ map named_form old
-    → map named_form new ≡ map named_form old ++ procedure_form row ∷ [] → map procedure_form (take (i + 1) rows) ≡ map named_form new
-forms_more rows i row old new within at so_far added =
-    ap (map procedure_form) (take_more rows i row within) ∙ map-append procedure_form (take i rows) (get_or rows i row ∷ [])
-    ∙ ap₂ (λ l x. l ++ procedure_form x ∷ []) so_far (sym at) ∙ sym added
-
--- each name is free when the procedures before it are there
-free_at : (before those : List Named) (i : ℕ) → AreFreeAfter before those → i < length those → naming_refusal (before ++ take i those) (get_or those i no_procedure).name ≡ None
-free_at before [] i free less = absurd (omega arith)
-free_at before (p ∷ those) zero free less = ap (λ l. naming_refusal l p.name) (append-nil before) ∙ free.0
-free_at before (p ∷ those) (suc i) free less =
-    ap (λ l. naming_refusal l (get_or those i no_procedure).name) (sym (append_assoc before (p ∷ []) (take i those))) ∙ free_at (before ++ p ∷ []) those i free.1 (omega arith)
-
-pub free_next : (those now : List Named) (i : ℕ) → AreFreeAfter [] those → now ≡ take i those → i < length those → naming_refusal now (get_or those i no_procedure).name ≡ None
-free_next those now i free is less = ap (λ l. naming_refusal l (get_or those i no_procedure).name) is ∙ free_at [] those i free less
-
--- one procedure more
-pub next_taken : (those now new : List Named) (i : ℕ) → now ≡ take i those → i < length those → new ≡ now ++ get_or those i no_procedure ∷ [] → new ≡ take (i + 1) those
-next_taken those now new i is less one = one ∙ ap (λ l. l ++ get_or those i no_procedure ∷ []) is ∙ sym (take_more those i no_procedure less)
-
-pub all_taken : (rows : List ProcedureRow) (those now : List Named) (n : ℕ) → map procedure_form rows ≡ map named_form those → n ≡ length rows → now ≡ take n those → now ≡ those
-all_taken rows those now n is all taken =
-    let long : length rows ≡ length those = sym (length-map rows procedure_form) ∙ ap length is ∙ length-map those named_form in
-    taken ∙ ap (λ k. take k those) (all ∙ long) ∙ take-length those
-
 -- ---- the turns lead from the opened core to that of the rows
 
 pub rows_lead : (s : Stored) (v core : CoreValue) (requests : List Request) (turns : List ℕ) → IsReached v → AreOfCore s v → IsOpened s core → core.limit ≡ MAX_EVENTS

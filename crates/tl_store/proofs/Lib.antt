@@ -5,4 +5,5 @@ mod StoredLemmas
 mod ReplyLemmas
 mod ChangeLemmas
 mod ClosingLemmas
+mod ProcedureLemmas
 mod AgainLemmas

@@ -1,5 +1,5 @@
 -- A core that was replayed has the calls of the rows.
-use Rattle.std.proofs.Common.{◌≡◌, ℕ, zero, suc, ◌<◌, ◌≤◌, pos, List, [], ◌∷◌, ◌++◌, length, map, reverse, refl, sym, ap, ◌∙◌, arith, Some, slice_get, string_bytes}
+use Rattle.std.proofs.Common.{◌≡◌, ℕ, zero, suc, ◌<◌, ◌≤◌, pos, List, [], ◌∷◌, ◌++◌, length, map, reverse, refl, sym, ap, ◌∙◌, subst, arith, Some, slice_get, string_bytes}
 use Rattle.std.proofs.lemmas.List.{length-map, append-nil, map-append}
 use Rattle.tl_tree_locking.specs.declared.event.Event.{Event}
 use Rattle.tl_tree_locking.specs.History.{caller, AllDone}
@@ -10,7 +10,7 @@ use Rattle.tl_ledger.specs.declared.rows.CallRow.{CallRow}
 use Rattle.std.specs.Prelude.{All}
 use Rattle.tl_recover.specs.Redriven.{IsAsked, Fits, GoesOn}
 use Rattle.tl_store.specs.declared.stored.Stored.{Stored}
-use Rattle.tl_store.specs.Rows.{call_form, request_form, named_form, AreNumbered, turn_bytes, all_turn_bytes}
+use Rattle.tl_store.specs.Rows.{AreLatest, call_form, request_form, AreNumbered, turn_bytes, all_turn_bytes}
 use Rattle.tl_store.specs.Recovered.{IsCallOf, IsReplyOf, IsOpened, IsRebuilt}
 
 -- the request at the position of a row is the row's
@@ -64,7 +64,7 @@ rebuilt s v w requests turns opened calls_epoch turns_epoch numbered asked took 
     let first : reverse turns ++ map caller v.past ≡ reverse turns = ap (λ p. reverse turns ++ map caller p) opened.past ∙ append-nil (reverse turns) in record {
       parents = ap (map pos) on.parents ∙ opened.parents;
       opening = on.opening ∙ opened.opening;
-      procedures = ap (map named_form) on.procedures ∙ opened.procedures;
+      procedures = subst (AreLatest s.procedures.items) (sym on.procedures) opened.procedures;
       epoch = (calls_epoch, turns_epoch);
       numbered = numbered;
       few = few_calls w s.calls.items requests asked fits;

@@ -4,7 +4,7 @@ use Rattle.sqlite_trees.specs.declared.error.StoreError.{StoreError}
 use Rattle.sqlite_trees.specs.declared.error.StoreError.TheVariants as name
 use Rattle.tl_recover.specs.Faults.{numbers_of as turn_numbers_of, out_of_memory}
 use Rattle.tl_store.specs.declared.fault.StoreFault.{StoreFault}
-use Rattle.tl_store.specs.declared.fault.StoreFault.TheVariants.{BadRow, Turn, WrongReply, DiskFailed, DiskFull, Damaged, Memory}
+use Rattle.tl_store.specs.declared.fault.StoreFault.TheVariants.{BadRow, Turn, WrongReply, DiskFailed, DiskFull, Damaged, Other, Memory}
 
 -- the fault's number, followed by its operand
 abbrev pub numbers_of : StoreFault → List ℕ
@@ -14,6 +14,7 @@ numbers_of (WrongReply call) = 1006 ∷ call ∷ []
 numbers_of DiskFailed = 1011 ∷ []
 numbers_of DiskFull = 1012 ∷ []
 numbers_of Damaged = 1013 ∷ []
+numbers_of Other = 1014 ∷ []
 numbers_of Memory = 1090 ∷ []
 
 -- memory was refused, for the store or for an admission
@@ -25,6 +26,7 @@ IsOutOfMemory (WrongReply call) = ⊥
 IsOutOfMemory DiskFailed = ⊥
 IsOutOfMemory DiskFull = ⊥
 IsOutOfMemory Damaged = ⊥
+IsOutOfMemory Other = ⊥
 
 -- the disk failed, memory was refused, or rows have another form: a fault of reading, whatever the rows say
 abbrev pub IsReadFault : StoreFault → Type 0
@@ -34,6 +36,7 @@ IsReadFault DiskFull = Unit {0}
 IsReadFault Damaged = Unit {0}
 IsReadFault Memory = Unit {0}
 IsReadFault (Turn fault) = ⊥
+IsReadFault Other = ⊥
 IsReadFault (WrongReply call) = ⊥
 
 -- the fault for a failure of the database

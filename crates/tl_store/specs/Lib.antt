@@ -4,3 +4,4 @@ pub mod Stored
 pub mod Recovered
 pub mod Changes
 pub mod Closing
+pub mod Left

@@ -2,7 +2,7 @@
 use Rattle.std.specs.Prelude.{◌≡◌, ℕ, ◌<◌, ◌≤◌, ℤ, pos, List, [], ◌++◌, All, map, length, reverse, true, Some, slice_get, string_bytes}
 use Rattle.tl_tree_locking.specs.History.{caller, is_done, AllDone}
 use Rattle.tl_tree_locking.specs.World.{reply_of}
-use Rattle.tl_procedures.specs.Names.{number_of}
+use Rattle.tl_procedures.specs.Names.{Named, number_of, latest, MayPutAll}
 use Rattle.tl_core.specs.Cores.{CoreValue, call_of, world_of}
 use Rattle.tl_core.specs.Entries.{procedure_at}
 use Rattle.tl_json.specs.Procedures.{AreAccepted}
@@ -10,7 +10,7 @@ use Rattle.tl_ledger.specs.Contents.{Contents}
 use Rattle.tl_ledger.specs.declared.rows.CallRow.{CallRow}
 use Rattle.tl_ledger.specs.declared.rows.ReplyRow.{ReplyRow}
 use Rattle.tl_store.specs.declared.stored.Stored.{Stored}
-use Rattle.tl_store.specs.Rows.{numbers_in, parent_in, fields_in, procedure_form, named_form, AreNumbered, turn_bytes, all_turn_bytes, IsTurnRow}
+use Rattle.tl_store.specs.Rows.{numbers_in, parent_in, fields_in, procedure_form, named_form, AreLatest, AreNumbered, turn_bytes, all_turn_bytes, IsTurnRow}
 use Rattle.tl_store.specs.Stored.{AreStored}
 
 -- call n is of the row's procedure with its arguments
@@ -32,7 +32,7 @@ pub record IsReplyOf (v : CoreValue) (epoch : ℤ) (row : ReplyRow) : Type 0 whe
 pub record IsOpened (s : Stored) (v : CoreValue) : Type 0 where
   pub parents : map pos v.parents ≡ map parent_in s.nodes.items
   pub opening : v.opening ≡ map fields_in s.records.items
-  pub procedures : map named_form v.procedures ≡ map procedure_form s.procedures.items
+  pub procedures : AreLatest s.procedures.items v.procedures
   pub calls : v.calls ≡ []
   pub past : v.past ≡ []
 
@@ -41,7 +41,7 @@ pub record IsOpened (s : Stored) (v : CoreValue) : Type 0 where
 pub record IsRebuilt (s : Stored) (v : CoreValue) : Type 0 where
   pub parents : map pos v.parents ≡ map parent_in s.nodes.items
   pub opening : v.opening ≡ map fields_in s.records.items
-  pub procedures : map named_form v.procedures ≡ map procedure_form s.procedures.items
+  pub procedures : AreLatest s.procedures.items v.procedures
   pub epoch : All (λ r. r.epoch ≡ pos s.marks.seals) s.calls.items × All (λ r. r.epoch ≡ pos s.marks.seals) s.turns.items
   pub numbered : AreNumbered s.calls.items
   pub few : length v.calls ≤ length s.calls.items
@@ -54,12 +54,15 @@ pub record IsRebuilt (s : Stored) (v : CoreValue) : Type 0 where
   pub at_rest : AllDone v.past
 
 -- The rows are those of this core: of its tree, its procedures, its calls and the turns that they took, and replies of its
--- calls. Its procedures are of accepted codes, as those of every core are.
+-- calls. Its procedures were put one after another, each of an accepted code and under a name that was allowed.
 pub record AreOfCore (s : Stored) (v : CoreValue) : Type 0 where
   pub parents : map parent_in s.nodes.items ≡ map pos v.parents
   pub records : map fields_in s.records.items ≡ v.opening
-  pub procedures : map procedure_form s.procedures.items ≡ map named_form v.procedures
-  pub accepted : AreAccepted v.procedures
+  pub all : List Named
+  pub procedures : map procedure_form s.procedures.items ≡ map named_form all
+  pub latest_are : v.procedures ≡ latest [] all
+  pub allowed : MayPutAll [] all
+  pub accepted : AreAccepted all
   pub epoch : All (λ r. r.epoch ≡ pos s.marks.seals) s.calls.items
   pub numbered : AreNumbered s.calls.items
   pub many : length s.calls.items ≡ length v.calls

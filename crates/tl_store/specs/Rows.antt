@@ -4,7 +4,7 @@ use Rattle.std.specs.List.{flat_map}
 use Rattle.serde_json.specs.Read.{read}
 use Rattle.tl_tree.specs.Reading.{integers_of}
 use Rattle.tl_instr.specs.Spelling.{spelling}
-use Rattle.tl_procedures.specs.Names.{Named}
+use Rattle.tl_procedures.specs.Names.{Named, latest}
 use Rattle.tl_procedures.specs.declared.request.Request.{Request}
 use Rattle.tl_ledger.specs.declared.rows.NodeRow.{NodeRow}
 use Rattle.tl_ledger.specs.declared.rows.RecordRow.{RecordRow}
@@ -32,6 +32,10 @@ procedure_form row = (string_bytes row.name, row.container.items)
 
 abbrev pub named_form : Named → List ℕ × List ℕ
 named_form p = (p.name, spelling p.code)
+
+-- These are the procedures of the rows, each in the place of an earlier one with its name.
+abbrev pub AreLatest : List ProcedureRow → List Named → Type 0
+AreLatest rows procedures = (all : List Named) × (map procedure_form rows ≡ map named_form all) × (procedures ≡ latest [] all)
 
 -- ---- calls
 

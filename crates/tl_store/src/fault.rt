@@ -32,6 +32,9 @@ pub enum StoreFault {
     /// 1013: the file is damaged: a page isn't what was written.
     #[error("the store's file is damaged")]
     Damaged,
+    /// 1014: the store isn't what was run.
+    #[error("the store isn't what was run")]
+    Other,
     /// 1090: memory was refused.
     #[error("out of memory")]
     Memory,
@@ -49,6 +52,7 @@ impl StoreFault {
             StoreFault::DiskFailed => (1011, None),
             StoreFault::DiskFull => (1012, None),
             StoreFault::Damaged => (1013, None),
+            StoreFault::Other => (1014, None),
             StoreFault::Memory => (1090, None),
         };
         let mut numbers = ArrayVec::new();

@@ -1,10 +1,12 @@
-//! How a server begins on a store.
+//! How a server begins on a store, and how it ends.
 #![tactic(auto)]
 
 mod beginning;
+mod ending;
 mod remembering;
 mod reopening;
 
 pub use beginning::{Beginning, make_store};
+pub use ending::end_store;
 pub use remembering::remember_keys;
 pub use reopening::{Retaken, reopen_store};

@@ -78,15 +78,16 @@ fn audited(
     before: Option<&Trail>,
     line: &str,
 ) -> Result<Trail, CliFault> {
-    let (orders, last) = audit_next_cmd(
+    let audited = audit_next_cmd(
         rt.alloc(),
         file.as_bytes(),
         before,
         &mut Silent,
         USUAL_NODES,
     )?;
-    assert_eq!(rt; orders.as_str(), line);
-    Ok(last)
+    assert_eq!(rt; audited.line.as_str(), line);
+    assert!(rt; audited.replaced.is_empty());
+    Ok(audited.last)
 }
 
 /// Checks that the file doesn't take over from the trail.

@@ -101,10 +101,15 @@ impl<'a, R: Files + Print + Eprint + AllocGlobal + Clone + Drop> Program<'a, R> 
         let answer = audit_next_cmd(self.rt.alloc(), &file, before, &mut shown, self.nodes);
         shown.end();
         match answer {
-            Ok((line, last)) => match self.rt.print(line.as_str()) {
-                Ok(()) => Ok(last),
-                Err(_) => Err(Failure::Refused(CliFault::Unwritable)),
-            },
+            Ok(audited) => {
+                for name in &audited.replaced {
+                    let _shown = eprintln!(self.rt; "treedb: {path}: {name} was replaced");
+                }
+                match self.rt.print(audited.line.as_str()) {
+                    Ok(()) => Ok(audited.last),
+                    Err(_) => Err(Failure::Refused(CliFault::Unwritable)),
+                }
+            }
             Err(fault) => {
                 let _shown = eprintln!(self.rt; "treedb: {path}");
                 self.show_why(&file, before, fault, explains);

@@ -255,10 +255,10 @@ where
     {
         self.serve_connections(&relay, options, connections)?;
         let (left, mut archive, journal) = relay.into_parts(self.rt, self.rt.alloc());
-        let ended = journal.end(self.rt, self.rt.alloc());
         if let Some((engine, sessions)) = left {
             archive.close(engine, sessions);
         }
+        let ended = journal.end(self.rt, self.rt.alloc(), archive.left(self.rt.alloc()));
         if let Err(fault) = ended {
             return Err(Failure::from(fault));
         }

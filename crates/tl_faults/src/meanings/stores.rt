@@ -84,8 +84,8 @@ pub fn from_1001_to_1014(number: u16) -> Option<Meaning> {
         }),
         1014 => Some(Meaning {
             parts: "",
-            name: "other copy",
-            when: "a copy doesn't have as many rows as the store counts, and isn't there; of `snapshot`",
+            name: "other store",
+            when: "the store doesn't have at the end what the server's last engine left, or a copy doesn't have as many rows as the store counts, and isn't there",
             advice: "look at the disks: one of them gave back what wasn't written",
         }),
         _ => None,

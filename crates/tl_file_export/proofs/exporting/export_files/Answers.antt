@@ -13,15 +13,15 @@ returns-clause-trails g c =
     let files = g.F.TrailFiles.files in
     let begun = c.new-splitting.result in
     let ended = c.export.new.taker in
-    let none : AreKept (files begun.kept) begun.nodes begun.count [] =
+    let none : AreKept (files begun.kept) begun.last begun.count [] =
     ([], subst (λ it. files it []) (sym c.new-splitting.ensures.0) c.requires.none, c.new-splitting.ensures.1, refl) in
     let handed = c.in_ok-export.ensures.trails in
-    let kept : AreKept (files ended.kept) ended.nodes ended.count handed.0 = handed.1 [] none in
+    let kept : AreKept (files ended.kept) ended.last ended.count handed.0 = handed.1 [] none in
     let is_of : List TrailValue → Type 0 =
     λ trails. IsClean (g.S.Store.view c.export.new.store) → (contents : Contents) → Holds (g.S.Store.view c.args.store.now).trees contents → AreTrailsOf contents trails in (
       kept.0,
       c.in_ok-end.ensures kept.0 kept.1,
-      (ended.nodes, ended.count, kept.2),
-      all_files ended.nodes ended.count None kept.0 kept.2 (subst AreClean (sym kept.3) handed.2),
+      (ended.last, ended.count, kept.2),
+      all_files ended.last ended.count None kept.0 kept.2 (subst AreClean (sym kept.3) handed.2),
       subst is_of (sym kept.3) handed.3,
     )

@@ -1,29 +1,12 @@
-use Rattle.std.proofs.Common.{◌≡◌, ◌∙◌, ◌<◌, Bool, true, false, not, length, get_or, refl, sym, ap, arith}
-use Rattle.std.proofs.lemmas.Bool.Decides.{Decides-eqb}
-use Rattle.std.proofs.lemmas.Slice.Eq.{slice_eq-Decides}
-use Rattle.tl_procedures.specs.Names.{Named, no_procedure}
-use Rattle.tl_procedures.proofs.Prefixes.{begins_at, same_named, prefix_more, prefix_whole}
+use Rattle.std.proofs.Common.{◌≡◌, ◌∙◌, ◌<◌, false, true, length, get_or, refl, sym, arith}
+use Rattle.tl_procedures.specs.Names.{KeepsNames, no_procedure}
+use Rattle.tl_procedures.proofs.Prefixes.{begins_keeps, keeps_shorter, name_at, same_named, prefix_more, prefix_whole}
 use Rattle.tl_procedures.proofs.procedures.Procedures.begin_with.Goals as goal
 
-not_true : (b : Bool) → not b ≡ true → b ≡ false
-not_true true h = sym h
-not_true false h = refl
-
-not_false : (b : Bool) → not b ≡ false → b ≡ true
-not_false true h = refl
-not_false false h = sym h
-
-pub returns-then-ne : goal.returns-then-ne
-returns-then-ne c = (
+pub returns-then-not-keep_names : goal.returns-then-not-keep_names
+returns-then-not-keep_names c = (
   (λ t. absurd (let e : ⊥ = cc in e)),
-  (λ b.
-      let xs = c.args.first.now in
-      let ys = c.args.self.now in
-      let inside : c.loop-number.number < length xs = (let n = c.len-number-end.ensures.value in let l = c.loop-number-test.true in omega (arith, n, l)) in
-      let names : c.name.result.now ≡ c.name-in-loop-number.result.now = c.name.ensures ∙ ap (λ (p : Named). p.name) (begins_at xs ys c.loop-number.number b inside) ∙ sym c.name-in-loop-number.ensures in
-      let same = (slice_eq-Decides Decides-eqb c.name.result.now c.name-in-loop-number.result.now _ refl).1 names in
-      let other = not_true _ (sym c.ne.ensures ∙ c.if-ne.true) in
-      absurd (let e : false ≡ true = sym other ∙ same in cc)),
+  (λ b. absurd (let e : false ≡ true = sym c.if-not-keep_names.true ∙ c.keep_names.ensures.1 (begins_keeps c.args.first.now c.args.self.now b) in cc)),
 )
 
 pub loop-number-preserved : goal.loop-number-preserved
@@ -34,16 +17,13 @@ loop-number-preserved c =
     let end = c.len-number-end.ensures.value in
     let test = c.loop-number-test.true in
     let inside : n < length xs = omega (arith, end, test) in
-    let few = c.if-len.false in
-    let long = c.len.ensures.value in
-    let short = c.len-2.ensures.value in
-    let within : n < length ys = omega (arith, inside, few, long, short) in
-    let names : c.name.result.now ≡ c.name-in-loop-number.result.now = (slice_eq-Decides Decides-eqb c.name.result.now c.name-in-loop-number.result.now _ refl).0 (not_false _ (sym c.ne.ensures ∙ c.if-ne.false)) in
+    let keeps : KeepsNames xs ys = c.keep_names.ensures.0 c.if-not-keep_names.false in
+    let shorter = keeps_shorter xs ys keeps in
+    let within : n < length ys = omega (arith, inside, shorter) in
     let codes = c.is.ensures.0 c.if-not-is.false in
-    let same : get_or ys n no_procedure ≡ get_or xs n no_procedure = same_named (get_or ys n no_procedure) (get_or xs n no_procedure)
-    (sym c.name.ensures ∙ names ∙ c.name-in-loop-number.ensures)
-    (sym c.get.ensures ∙ sym c.deref.ensures ∙ codes ∙ c.deref-in-loop-number.ensures ∙ c.get-in-loop-number.ensures) in
-    prefix_more xs ys n inside within c.loop-number.invariant same
+    prefix_more xs ys n inside within c.loop-number.invariant
+    (same_named (get_or ys n no_procedure) (get_or xs n no_procedure) (name_at xs ys n keeps inside)
+    (sym c.get.ensures ∙ sym c.deref.ensures ∙ codes ∙ c.deref-in-loop-number.ensures ∙ c.get-in-loop-number.ensures))
 
 pub returns : goal.returns
 returns c =

@@ -1,6 +1,6 @@
 use Rattle.tl_server.specs.Served.{ReadBy, keying}
 use Rattle.tl_server.proofs.TextLemmas.{reads_too}
-use Rattle.tl_server.proofs.relay.act_or_read.Goals as goal
+use Rattle.tl_server.proofs.stage.act_or_read.Goals as goal
 
 pub returns-in_default : goal.returns-in_default
 returns-in_default g c =
