@@ -80,6 +80,8 @@ export class Client {
   register(name: string, asm: string): Promise<Bounds>;
   /** Registers all procedures of a text of the procedure language, or none. */
   registerText(text: string): Promise<Record<string, Bounds>>;
+  /** Puts all procedures of a text of the procedure language in the place of those with their names, or none. */
+  replaceText(text: string): Promise<Record<string, Bounds>>;
   /** Registers the procedures of a file: all of a `.tdb`; the one of a `.tlp` or of an assembler text, under `name` or the file's name without its ending. */
   registerFile(path: string | URL, name?: string): Promise<Record<string, Bounds>>;
   /** Runs a call to its end. */

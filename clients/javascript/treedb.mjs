@@ -194,6 +194,15 @@ export class Client {
     return Object.fromEntries([[own, await this.register(own, file.ext === ".tlp" ? assemblerText(bytes) : utf8.decode(bytes))]]);
   }
 
+  /**
+   * Puts all procedures of a text of the procedure language in the place of those with their names, or none. Answers the bounds of each by its name. Calls that are
+   * answered before run the old code, and calls that are asked for after the answer run the new one. Only a server that lasts knows this (901).
+   */
+  async replaceText(written) {
+    const { replaced } = await this.#ask(`{"op":"replace","text":${text(written)}}`);
+    return Object.fromEntries(replaced.map(({ name, bounds }) => [name, bounds]));
+  }
+
   /** Runs a call to its end. Answers `{ call, reply, epoch }`. */
   async call(procedure, ...args) {
     return callOf(await this.#ask(`{"op":"call","proc":${text(procedure)},"args":${integers(args)}}`));

@@ -13,7 +13,7 @@ from .connection import LOOPBACK, address_of, spoken
 from .errors import Disconnected, Refused, TimedOut
 from .names import Names
 from .protocol import (MAX_BATCH, NAME_TAKEN, READER, READER_TEXT, Answer, Batch, Bounds, Call, answer_of, batch_in, batch_request, call_in, call_request,
-                       grow_request, line_of, records_in, register_request, registered_in, text_request, wanted, with_place)
+                       grow_request, line_of, records_in, register_request, registered_in, replace_request, text_request, wanted, with_place)
 from .texts import file_request
 
 __all__ = ["AsyncClient"]
@@ -71,6 +71,10 @@ class AsyncClient:
     async def register_file(self, path: str | os.PathLike[str], name: str | None = None) -> dict[str, Bounds]:
         """Registers the procedures of a file, as `Client.register_file` does."""
         return await self._register(await _in_thread(file_request, path, name))
+
+    async def replace_text(self, text: str) -> dict[str, Bounds]:
+        """Puts all procedures of a text in the place of those with their names, or none, as `Client.replace_text` does."""
+        return await self._register(replace_request(text))
 
     async def call(self, procedure: str, *arguments: int, key: str | None = None) -> Answer:
         """Runs a call to its end, and returns its `Answer`. With a `key` it is run once, as by `Client.call`."""

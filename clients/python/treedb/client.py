@@ -12,7 +12,7 @@ from .connection import LOOPBACK, address_of, connected
 from .errors import Disconnected, Exhausted, Refused, TimedOut
 from .names import Names
 from .protocol import (MAX_BATCH, NAME_TAKEN, READER, READER_TEXT, Answer, Batch, Bounds, Call, Outcome, answer_of, batch_in, batch_request, call_in,
-                       call_request, grow_request, line_of, records_in, register_request, registered_in, text_request, wanted, with_place)
+                       call_request, grow_request, line_of, records_in, register_request, registered_in, replace_request, text_request, wanted, with_place)
 from .texts import file_request
 
 __all__ = ["Client"]
@@ -62,6 +62,14 @@ class Client:
         which is registered under `name`, or else the file's name without its ending.
         """
         return self._register(file_request(path, name))
+
+    def replace_text(self, text: str) -> dict[str, Bounds]:
+        """Puts all procedures of a text of the procedure language in the place of those with their names, or none, and returns their `Bounds` by name.
+
+        Calls that are answered before run the old code, and calls that are asked for after the answer run the new one. It is 601 if one of the names has no
+        procedure yet. Only a server that lasts knows this; any other refuses with 901.
+        """
+        return self._register(replace_request(text))
 
     def call(self, procedure: str, *arguments: int, key: str | None = None) -> Answer:
         """Runs a call to its end, and returns its `Answer`.

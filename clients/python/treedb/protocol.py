@@ -99,6 +99,10 @@ def text_request(text: str) -> dict[str, Any]:
     return {"op": "register", "text": text}
 
 
+def replace_request(text: str) -> dict[str, Any]:
+    return {"op": "replace", "text": text}
+
+
 def call_request(procedure: str, arguments: Iterable[Any], key: str | None = None) -> dict[str, Any]:
     request = {"op": "call", "proc": procedure, "args": arguments_of(arguments)}
     return request if key is None else {**request, "key": _key_of(key)}
@@ -118,9 +122,9 @@ def grow_request(parents: list[int]) -> dict[str, Any]:
 
 
 def registered_in(request: dict[str, Any], answer: dict[str, Any]) -> dict[str, Bounds]:
-    """The procedures that were registered, by their names."""
+    """The procedures that were registered or replaced, by their names."""
     if "text" in request:
-        return {each["name"]: _bounds(each["bounds"]) for each in answer["registered"]}
+        return {each["name"]: _bounds(each["bounds"]) for each in answer["replaced" if request["op"] == "replace" else "registered"]}
     return {request["name"]: _bounds(answer["bounds"])}
 
 
