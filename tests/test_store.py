@@ -409,6 +409,11 @@ def test_kills_under_load(tests):
             threads = [threading.Thread(target=ask_until_killed, args=(server.port, own)) for own in answered]
             for thread in threads:
                 thread.start()
+            # Every second kill comes after some answers, so that a slow machine has as many to lose.
+            if number % 2:
+                end = time.monotonic() + 30
+                while sum(map(len, answered)) < 20 and time.monotonic() < end:
+                    time.sleep(0.01)
             time.sleep(random.uniform(0.02, 0.3))
             kill(server)
             for thread in threads:
