@@ -49,6 +49,18 @@ def test_open_connections(tests):
             tests.check("nobody is taken up later", late.rest() == "", "")
 
 
+def test_unsaved(tests):
+    """A tree that can't be saved is printed all the same, before the error."""
+    for connections in (100, None):
+        with serving(tests, "--save", "nowhere/left.json", connections=connections) as server:
+            peer = Peer(server.port)
+            tests.check("a call before", '"bounds"' in peer.ask(ADD) and '"reply":[8]' in peer.ask(CALL), "")
+            is_asked(tests, "a tree that can't be saved", server)
+            run = server.end()
+            tests.check(f"a tree that can't be saved: {connections}", run.status == 3 and run.out.endswith(left([0], 8).splitlines(True)[1] + '{"error":[32]}\n') and run.out.count("\n") == 3, run)
+            tests.check("people are told why", "treedb: nowhere/left.json can't be written: " in run.err, run)
+
+
 def test_in_a_batch(tests):
     """A batch that is under way is run to its end and answered."""
     with serving(tests) as server:

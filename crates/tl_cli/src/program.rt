@@ -325,6 +325,23 @@ impl<'a, R: Files + Print + Eprint + AllocGlobal> Program<'a, R> {
             Err(reason) => Err(Failure::Unwritable { path, reason }),
         }
     }
+
+    // Saves the tree of a server that has ended, if a file is named for it. If it can't be saved, the server's lines are printed all
+    // the same, since they may be all that is left of the tree.
+    fn save_last<'p>(
+        &self,
+        path: Option<&'p str>,
+        tree: &Tree,
+        lines: &str,
+    ) -> Result<(), Failure<'p>> {
+        let Err(failure) = self.save(path, tree) else {
+            return Ok(());
+        };
+        match self.rt.print(lines) {
+            Ok(()) => Err(failure),
+            Err(_) => Err(Failure::Refused(CliFault::Unwritable)),
+        }
+    }
 }
 
 impl<'a, R: Files + Print + Eprint + AllocGlobal + Threads + Wait + Sync> Program<'a, R> {

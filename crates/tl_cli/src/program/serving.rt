@@ -166,8 +166,10 @@ where
         let sessions = self.sessions_of(&engine, options, connections)?;
         let epochs = end_generation(alloc, engine, sessions, &mut succession)?;
         let lines = epochs.lines(alloc)?;
-        self.keep(outputs.trail, &epochs)?;
-        self.save(outputs.tree, epochs.tree())?;
+        // The tree is saved though the trail can't be written.
+        let kept = self.keep(outputs.trail, &epochs);
+        self.save_last(outputs.tree, epochs.tree(), &lines)?;
+        kept?;
         Ok(lines)
     }
 
@@ -364,7 +366,7 @@ where
         let alloc = self.rt.alloc();
         let generations = archive.finish(alloc)?;
         let lines = generations_lines(alloc, generations, archive.tree())?;
-        self.save(outputs.tree, archive.tree())?;
+        self.save_last(outputs.tree, archive.tree(), &lines)?;
         let Some(fault) = archive.unwritten() else {
             return Ok(lines);
         };
