@@ -27,8 +27,8 @@ pub const TREEDB: &str = concat!(env!("CARGO_MANIFEST_DIR"), "/../crates/tl_cli/
 pub struct Engines<'a> {
     pub container: &'a Path,
     pub workers: usize,
-    pub nodes: u16,
-    pub chain: u16,
+    pub nodes: u32,
+    pub chain: u32,
     pub engines: u32,
 }
 
@@ -45,7 +45,7 @@ impl Engines<'_> {
     }
 
     fn told_by(&self, mut command: Command) -> Measured {
-        let numbers = [self.workers, self.nodes.into(), self.chain.into(), self.engines as usize];
+        let numbers = [self.workers, self.nodes as usize, self.chain as usize, self.engines as usize];
         command.arg(self.container).args(numbers.map(|number| number.to_string()));
         processors::keep_to(self.workers.max(1));
         let told = numbers_of(command);

@@ -6,7 +6,7 @@ mod c {
     use crate::measured::Measured;
 
     extern "C" {
-        pub fn treedb_run(code: *const u8, size: usize, nodes: u16, args: *const i64, arity: usize, times: u32) -> Measured;
+        pub fn treedb_run(code: *const u8, size: usize, nodes: u32, args: *const i64, arity: usize, times: u32) -> Measured;
         pub fn treedb_local(code: *const u8, size: usize, args: *const i64, arity: usize, times: u32) -> Measured;
         pub fn treedb_check(code: *const u8, size: usize, times: u32) -> Measured;
         pub fn treedb_decode(code: *const u8, size: usize, times: u32) -> Measured;
@@ -15,7 +15,7 @@ mod c {
         pub fn treedb_interleave(
             code: *const u8,
             size: usize,
-            parents: *const u16,
+            parents: *const u32,
             nodes: usize,
             args: *const i64,
             calls: usize,
@@ -28,17 +28,17 @@ mod c {
         pub fn treedb_tell(
             code: *const u8,
             size: usize,
-            parents: *const u16,
+            parents: *const u32,
             nodes: usize,
             args: *const i64,
             calls: usize,
             text: *mut u8,
             room: usize,
         ) -> Measured;
-        pub fn treedb_admit(code: *const u8, size: usize, parents: *const u16, nodes: usize, args: *const i64, calls: usize) -> Measured;
-        pub fn treedb_keep(code: *const u8, size: usize, parents: *const u16, nodes: usize, args: *const i64, calls: usize) -> Measured;
-        pub fn treedb_replay(code: *const u8, size: usize, parents: *const u16, nodes: usize, args: *const i64, calls: usize) -> Measured;
-        pub fn treedb_seal(code: *const u8, size: usize, parents: *const u16, nodes: usize, args: *const i64, calls: usize) -> Measured;
+        pub fn treedb_admit(code: *const u8, size: usize, parents: *const u32, nodes: usize, args: *const i64, calls: usize) -> Measured;
+        pub fn treedb_keep(code: *const u8, size: usize, parents: *const u32, nodes: usize, args: *const i64, calls: usize) -> Measured;
+        pub fn treedb_replay(code: *const u8, size: usize, parents: *const u32, nodes: usize, args: *const i64, calls: usize) -> Measured;
+        pub fn treedb_seal(code: *const u8, size: usize, parents: *const u32, nodes: usize, args: *const i64, calls: usize) -> Measured;
         pub fn treedb_block(code: *const u8, size: usize, times: u32) -> Measured;
         pub fn treedb_read(text: *const u8, size: usize, times: u32) -> Measured;
         pub fn treedb_parse(text: *const u8, size: usize, times: u32) -> Measured;
@@ -76,7 +76,7 @@ of_bytes! {
 /// Functions of calls: their code, the tree's parents, and an argument for each.
 macro_rules! of_calls {
     ($($name:ident is $function:ident;)*) => {
-        $(pub fn $name(code: &[u8], parents: &[u16], args: &[i64]) -> Measured {
+        $(pub fn $name(code: &[u8], parents: &[u32], args: &[i64]) -> Measured {
             unsafe {
                 c::$function(code.as_ptr(), code.len(), parents.as_ptr(), parents.len(), args.as_ptr(), args.len())
             }
@@ -91,7 +91,7 @@ of_calls! {
     seal is treedb_seal;
 }
 
-pub fn run(code: &[u8], nodes: u16, args: &[i64], times: u32) -> Measured {
+pub fn run(code: &[u8], nodes: u32, args: &[i64], times: u32) -> Measured {
     unsafe { c::treedb_run(code.as_ptr(), code.len(), nodes, args.as_ptr(), args.len(), times) }
 }
 
@@ -99,7 +99,7 @@ pub fn local(code: &[u8], args: &[i64], times: u32) -> Measured {
     unsafe { c::treedb_local(code.as_ptr(), code.len(), args.as_ptr(), args.len(), times) }
 }
 
-pub fn interleave(code: &[u8], parents: &[u16], args: &[i64], nanos: &mut [u64], steps: &mut [u64]) -> Measured {
+pub fn interleave(code: &[u8], parents: &[u32], args: &[i64], nanos: &mut [u64], steps: &mut [u64]) -> Measured {
     unsafe {
         c::treedb_interleave(
             code.as_ptr(),
@@ -116,7 +116,7 @@ pub fn interleave(code: &[u8], parents: &[u16], args: &[i64], nanos: &mut [u64],
     }
 }
 
-pub fn tell(code: &[u8], parents: &[u16], args: &[i64], text: &mut [u8]) -> Measured {
+pub fn tell(code: &[u8], parents: &[u32], args: &[i64], text: &mut [u8]) -> Measured {
     unsafe {
         c::treedb_tell(
             code.as_ptr(),

@@ -15,12 +15,12 @@ const CALLS: u32 = 4_096;
 /// The node that each call locks, and the order in which calls come, lock, free and end.
 struct Schedule {
     events: Vec<Event>,
-    nodes: Vec<u16>,
+    nodes: Vec<u32>,
 }
 
 impl Schedule {
     /// The call of that number locks this node.
-    fn new(node_of: impl Fn(u32) -> u16) -> Schedule {
+    fn new(node_of: impl Fn(u32) -> u32) -> Schedule {
         Schedule { events: Vec::new(), nodes: (0..CALLS).map(node_of).collect() }
     }
 
@@ -53,11 +53,11 @@ impl Schedule {
     }
 
     /// The trail's text on the tree of these parents.
-    fn text(self, parents: Vec<u16>) -> Option<String> {
-        let tree = Tree::new(parents, vec![[0; 8]; usize::from(NODES)]).ok()?;
+    fn text(self, parents: Vec<u32>) -> Option<String> {
+        let tree = Tree::new(parents, vec![[0; 8]; NODES as usize]).ok()?;
         let mut procedures = Procedures::default();
         procedures.add("touch", verify(decode(&codes::touch()).ok()?).ok()?).ok()?;
-        let told = |node: &u16| ToldCall { procedure: 0, args: vec![i64::from(*node)], reply: Some(Vec::new()) };
+        let told = |node: &u32| ToldCall { procedure: 0, args: vec![i64::from(*node)], reply: Some(Vec::new()) };
         let calls = self.nodes.iter().map(told).collect();
         let ends = tree.records.clone();
         Some(write_trail(&Trail { tree, procedures, calls, events: self.events, ends }))
@@ -75,19 +75,19 @@ fn below_the_root() -> Schedule {
 }
 
 /// Of each 64 calls 8 hold inner nodes of a wide tree, and the others come below them.
-fn in_the_way(call: u32) -> u16 {
-    let place = (call % u32::from(OPEN)) as u16;
+fn in_the_way(call: u32) -> u32 {
+    let place = (call % u32::from(OPEN)) as u32;
     if place < 8 { 1 + place } else { 900 + 50 * place }
 }
 
 /// Each schedule's name, and its trail's text.
 pub fn all() -> Option<Vec<(&'static str, String)>> {
-    let end_of_chain = |call: u32| NODES - OPEN + (call % u32::from(OPEN)) as u16;
+    let end_of_chain = |call: u32| NODES - OPEN + (call % u32::from(OPEN)) as u32;
     Some(vec![
         ("one after another at the end of a chain", Schedule::new(|_| NODES - 1).in_groups(1).text(chain(NODES))?),
         ("the same while call 0 holds the root", below_the_root().text(chain(NODES))?),
         ("64 open, each below the one before, at the end of a chain", Schedule::new(end_of_chain).in_groups(OPEN.into()).text(chain(NODES))?),
-        ("4,096 open, each below the one before", Schedule::new(|call| call as u16).in_groups(CALLS).text(chain(NODES))?),
+        ("4,096 open, each below the one before", Schedule::new(|call| call as u32).in_groups(CALLS).text(chain(NODES))?),
         ("64 open in each other's way, nodes of eight children", Schedule::new(in_the_way).in_groups(OPEN.into()).text(wide(NODES))?),
     ])
 }

@@ -6,7 +6,7 @@ use crate::measured::Measured;
 use crate::sqlite_library::{Database, Library};
 
 /// A table of the tree's nodes, each with its number among its siblings.
-fn filled(parents: &[u16]) -> Option<Database> {
+fn filled(parents: &[u32]) -> Option<Database> {
     let database = Database::open(Library::find()?, c":memory:")?;
     database.run("CREATE TABLE nodes (id INTEGER PRIMARY KEY, parent INTEGER, number INTEGER, a INTEGER, b INTEGER, c INTEGER, d INTEGER, e INTEGER, f INTEGER, g INTEGER, h INTEGER)")?;
     database.run("CREATE UNIQUE INDEX ways ON nodes (parent, number)")?;
@@ -14,7 +14,7 @@ fn filled(parents: &[u16]) -> Option<Database> {
     let mut children = vec![0; parents.len()];
     insert.run(&[0, -1, 0])?;
     for (node, &parent) in (0..).zip(parents).skip(1) {
-        let number = &mut children[usize::from(parent)];
+        let number = &mut children[parent as usize];
         insert.run(&[node, parent.into(), *number])?;
         *number += 1;
     }
@@ -25,7 +25,7 @@ fn filled(parents: &[u16]) -> Option<Database> {
 /// For each call a transaction with prepared statements: from the root down to the head that is its argument and on to the end of that
 /// chain, where it adds 1 to the first field, which it answers. The same in so many databases, one after another. None where the library
 /// isn't installed.
-pub fn descend(parents: &[u16], args: &[i64], chain: u16, databases: u32) -> Option<Measured> {
+pub fn descend(parents: &[u32], args: &[i64], chain: u32, databases: u32) -> Option<Measured> {
     let mut measured = Measured::default();
     for _ in 0..databases {
         let database = filled(parents)?;
@@ -39,7 +39,7 @@ pub fn descend(parents: &[u16], args: &[i64], chain: u16, databases: u32) -> Opt
 }
 
 /// The sum of what the calls answer.
-fn run_all(database: &Database, args: &[i64], chain: u16, measured: &mut Measured) -> Option<u64> {
+fn run_all(database: &Database, args: &[i64], chain: u32, measured: &mut Measured) -> Option<u64> {
     let begin = database.prepare("BEGIN IMMEDIATE")?;
     let child = database.prepare("SELECT id FROM nodes WHERE parent = ?1 AND number = ?2")?;
     let add = database.prepare("UPDATE nodes SET a = a + 1 WHERE id = ?1 RETURNING a")?;

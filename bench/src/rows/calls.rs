@@ -13,7 +13,7 @@ use crate::twin::work as twin;
 
 const LEAST: Goal = Goal::AtLeast(0.9);
 
-fn run_row(name: &str, code: &[u8], nodes: u16, args: &[i64], times: u32) -> Result<Row, String> {
+fn run_row(name: &str, code: &[u8], nodes: u32, args: &[i64], times: u32) -> Result<Row, String> {
     let [ours, theirs] = both(
         name,
         &mut || product::run(code, nodes, args, times),
@@ -38,7 +38,7 @@ pub fn alone() -> Result<Part, String> {
         run_row("a loop of arithmetic", &codes::arithmetic_loop(), 1, &[], 4)?,
         run_row("a loop of `get` and `put`", &codes::field_loop(), 1, &[], 4)?,
         run_row("loops of `rep` and `end` alone", &codes::bare_loops(), 1, &[], 4)?,
-        run_row("a walk down a chain of 4,096 nodes", &codes::bare_walk(NODES), NODES, &[0], 60)?,
+        run_row("a walk down a chain of 4,096 nodes", &codes::bare_walk(NODES as u16), NODES, &[0], 60)?,
         local_row()?,
     ];
     Ok(Part::new("A call alone", TWIN, rows))

@@ -18,7 +18,7 @@ const GROUPS: usize = (CALLS / OPEN) as usize;
 struct Work {
     name: &'static str,
     code: Vec<u8>,
-    parents: Vec<u16>,
+    parents: Vec<u32>,
     args: Vec<i64>,
 }
 
@@ -32,7 +32,7 @@ fn walks() -> Work {
 }
 
 /// Calls that lock one node each.
-fn touches(name: &'static str, parents: Vec<u16>, node_of: impl Fn(u16) -> u16) -> Work {
+fn touches(name: &'static str, parents: Vec<u32>, node_of: impl Fn(u32) -> u32) -> Work {
     let args = (0..CALLS).map(|call| i64::from(node_of(call % OPEN))).collect();
     Work { name, code: codes::touch(), parents, args }
 }

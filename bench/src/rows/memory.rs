@@ -24,7 +24,7 @@ const NODE: f64 = 135.0;
 type Bytes = [f64; 2];
 
 /// The most bytes that a core of so many nodes takes for so many calls with so many locks each.
-fn bytes(nodes: u16, calls: u16, locks: u16) -> Bytes {
+fn bytes(nodes: u32, calls: u32, locks: u16) -> Bytes {
     let (code, parents, args) = (codes::walk(locks), chains(nodes, CHAIN), heads(calls, nodes, CHAIN));
     let ours = most_bytes(|| {
         product::interleave(&code, &parents, &args, &mut [], &mut []);

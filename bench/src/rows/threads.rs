@@ -24,8 +24,8 @@ const PLAN: Plan = Plan { rounds: 10, ..USUAL };
 struct OnThreads {
     work: &'static str,
     code: Vec<u8>,
-    nodes: u16,
-    chain: u16,
+    nodes: u32,
+    chain: u32,
     engines: u32,
     /// How many turns a call takes: its locks, its frees and its return.
     turns: f64,
@@ -151,7 +151,7 @@ pub fn threads() -> Result<Vec<Part>, String> {
 const SQLITE: &str = "A procedure a transaction, beside SQLite in memory";
 
 /// How many nodes a call locks below the root.
-const WAY: u16 = 5;
+const WAY: u32 = 5;
 
 /// How many cores, engines or databases run the calls in a round.
 const ANEW: u32 = 4;
@@ -161,7 +161,7 @@ pub fn sqlite() -> Result<Part, String> {
     if sqlite::descend(&parents, &args, WAY, 1).is_none() {
         return Ok(Part::left_out(SQLITE, "Left out: SQLite isn't installed, or is too old (3.35 is needed)."));
     }
-    let container = Container::new(&codes::descend(WAY))?;
+    let container = Container::new(&codes::descend(WAY as u16))?;
     // Without a worker a core is driven by one thread, one call after another.
     let [engine, core] = [1, 0].map(|workers| Engines {
         container: &container.0,

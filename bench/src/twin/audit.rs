@@ -77,7 +77,7 @@ impl Watch<'_> {
             if self.placer.holder(node) != NOBODY {
                 return Err(712);
             }
-            if self.records[usize::from(node)] != record {
+            if self.records[node as usize] != record {
                 return Err(713);
             }
         }
@@ -111,7 +111,7 @@ impl Watch<'_> {
             Event::Lock { .. } => call.holding += 1,
             Event::Free { node, record, .. } => {
                 call.holding -= 1;
-                self.records[usize::from(node)] = record;
+                self.records[node as usize] = record;
             }
             Event::Done { .. } => call.stage = Stage::Done,
         }
@@ -162,7 +162,7 @@ impl Keeper for Next<'_> {
     type Refusal = Stop;
 
     #[inline(always)]
-    fn lock(&mut self, wanted: u16) -> Result<Record, Stop> {
+    fn lock(&mut self, wanted: u32) -> Result<Record, Stop> {
         match self.event.take() {
             Some(&Event::Lock { node, record, .. }) if node == wanted => Ok(record),
             Some(_) => Err(Stop::NotGenuine),
@@ -171,7 +171,7 @@ impl Keeper for Next<'_> {
     }
 
     #[inline(always)]
-    fn free(&mut self, freed: u16, left: Record) -> Result<(), Stop> {
+    fn free(&mut self, freed: u32, left: Record) -> Result<(), Stop> {
         match self.event.take() {
             Some(&Event::Free { node, record, .. }) if node == freed && record == left => Ok(()),
             Some(_) => Err(Stop::NotGenuine),

@@ -9,7 +9,7 @@ use super::tree::Shape;
 #[derive(Clone, Copy, Default)]
 struct Course {
     is_open: bool,
-    holding: u16,
+    holding: u32,
 }
 
 /// The order of a history of so many calls.
@@ -57,7 +57,7 @@ fn keeps(rule: bool) -> Option<()> {
 
 /// Whether the call locks its first node, or one below a node that it holds, for the first time.
 #[inline(always)]
-fn may_lock(placer: &Placer, course: Course, call: u32, node: u16, shape: &Shape) -> bool {
+fn may_lock(placer: &Placer, course: Course, call: u32, node: u32, shape: &Shape) -> bool {
     if !placer.stands(call) {
         return course.is_open;
     }

@@ -20,8 +20,8 @@ const MAX_NAME: usize = 32;
 #[derive(Clone, Copy, Debug, PartialEq)]
 pub enum Event {
     Admit { call: u32 },
-    Lock { call: u32, node: u16, record: Record },
-    Free { call: u32, node: u16, record: Record },
+    Lock { call: u32, node: u32, record: Record },
+    Free { call: u32, node: u32, record: Record },
     Done { call: u32 },
 }
 
@@ -32,7 +32,7 @@ impl Event {
         }
     }
 
-    pub fn node(&self) -> Option<u16> {
+    pub fn node(&self) -> Option<u32> {
         match *self {
             Event::Lock { node, .. } | Event::Free { node, .. } => Some(node),
             Event::Admit { .. } | Event::Done { .. } => None,
@@ -104,7 +104,7 @@ struct OpenCall {
 #[derive(Clone, Copy, Debug, PartialEq)]
 pub enum Stepped {
     Moved(Action),
-    Blocked { node: u16, holder: u32 },
+    Blocked { node: u32, holder: u32 },
     Over,
 }
 
@@ -139,7 +139,7 @@ struct Access<'a> {
 }
 
 struct Blocked {
-    node: u16,
+    node: u32,
     holder: u32,
 }
 
@@ -147,8 +147,8 @@ impl Keeper for Access<'_> {
     type Refusal = Blocked;
 
     #[inline(always)]
-    fn lock(&mut self, node: u16) -> Result<Record, Blocked> {
-        let index = usize::from(node);
+    fn lock(&mut self, node: u32) -> Result<Record, Blocked> {
+        let index = node as usize;
         let holder = self.nodes.holders[index];
         if holder != NOBODY {
             return Err(Blocked { node, holder });
@@ -160,8 +160,8 @@ impl Keeper for Access<'_> {
     }
 
     #[inline(always)]
-    fn free(&mut self, node: u16, record: Record) -> Result<(), Blocked> {
-        let index = usize::from(node);
+    fn free(&mut self, node: u32, record: Record) -> Result<(), Blocked> {
+        let index = node as usize;
         self.nodes.records[index] = record;
         self.nodes.holders[index] = NOBODY;
         self.nodes.history.push(Event::Free { call: self.call, node, record });
@@ -288,8 +288,8 @@ impl Core {
     }
 
     /// Whether some call holds the node.
-    pub fn is_held(&self, node: u16) -> bool {
-        self.nodes.holders[usize::from(node)] != NOBODY
+    pub fn is_held(&self, node: u32) -> bool {
+        self.nodes.holders[node as usize] != NOBODY
     }
 
     pub fn opening(&self) -> &Tree {

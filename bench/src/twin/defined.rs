@@ -28,41 +28,41 @@ impl Part {
         self.held > 0
     }
 
-    fn has_locked(&self, node: u16) -> bool {
-        self.locked_any() && self.marks[usize::from(node)] != Mark::Untouched
+    fn has_locked(&self, node: u32) -> bool {
+        self.locked_any() && self.marks[node as usize] != Mark::Untouched
     }
 
-    fn holds(&self, node: u16) -> bool {
-        self.locked_any() && self.marks[usize::from(node)] == Mark::Held
+    fn holds(&self, node: u32) -> bool {
+        self.locked_any() && self.marks[node as usize] == Mark::Held
     }
 
-    fn lock(&mut self, node: u16, shape: &Shape) {
+    fn lock(&mut self, node: u32, shape: &Shape) {
         if self.marks.is_empty() {
             self.marks = vec![Mark::Untouched; shape.node_count()];
         }
         if !self.holds(node) {
             self.held += 1;
         }
-        self.marks[usize::from(node)] = Mark::Held;
+        self.marks[node as usize] = Mark::Held;
     }
 
-    fn free(&mut self, node: u16) {
+    fn free(&mut self, node: u32) {
         if self.holds(node) {
             self.held -= 1;
-            self.marks[usize::from(node)] = Mark::Freed;
+            self.marks[node as usize] = Mark::Freed;
         }
     }
 
     /// Whether the call may still lock the node: it hasn't yet, and of the nodes above, it holds the nearest that it
     /// locked.
-    fn may_come(&self, node: u16, shape: &Shape) -> bool {
+    fn may_come(&self, node: u32, shape: &Shape) -> bool {
         if !self.holds_any() || self.has_locked(node) {
             return false;
         }
         let mut node = node;
         while node != 0 {
             node = shape.parent(node);
-            match self.marks[usize::from(node)] {
+            match self.marks[node as usize] {
                 Mark::Untouched => {}
                 mark => return mark == Mark::Held,
             }

@@ -251,7 +251,7 @@ impl Engine {
     }
 
     /// Waits until nobody holds the node.
-    fn wait_for<'a>(&'a self, mut shared: MutexGuard<'a, Shared>, node: u16) -> MutexGuard<'a, Shared> {
+    fn wait_for<'a>(&'a self, mut shared: MutexGuard<'a, Shared>, node: u32) -> MutexGuard<'a, Shared> {
         while shared.running.core().is_held(node) {
             shared.waiting += 1;
             shared = self.freed.wait(shared).unwrap_or_else(PoisonError::into_inner);

@@ -35,18 +35,18 @@ impl Placer {
     }
 
     /// The call that holds the node.
-    pub fn holder(&self, node: u16) -> u32 {
-        self.holders[usize::from(node)]
+    pub fn holder(&self, node: u32) -> u32 {
+        self.holders[node as usize]
     }
 
     /// The call that was the last to lock the node while it held the parent.
-    pub fn under(&self, node: u16) -> u32 {
-        self.under[usize::from(node)]
+    pub fn under(&self, node: u32) -> u32 {
+        self.under[node as usize]
     }
 
     /// The first in order of the calls that may still come to the node: the first that a climb to the root meets. The climb ends where
     /// it has met as many held nodes as there are.
-    fn nearest_coming(&self, node: u16, shape: &Shape) -> u32 {
+    fn nearest_coming(&self, node: u32, shape: &Shape) -> u32 {
         let mut node = node;
         let mut left = self.held;
         while node != 0 && left > 0 {
@@ -70,7 +70,7 @@ impl Placer {
 
     /// Puts the call before the first that may still come to the node. That one came not long ago, so it is looked for from
     /// the end.
-    fn put_at_node(&mut self, call: u32, node: u16, shape: &Shape) {
+    fn put_at_node(&mut self, call: u32, node: u32, shape: &Shape) {
         let place = match self.nearest_coming(node, shape) {
             NOBODY => None,
             first => self.order.iter().rposition(|&other| other == first),
@@ -78,18 +78,18 @@ impl Placer {
         self.put(place.unwrap_or(self.order.len()), call);
     }
 
-    pub fn lock(&mut self, call: u32, node: u16, shape: &Shape) {
+    pub fn lock(&mut self, call: u32, node: u32, shape: &Shape) {
         if self.stands(call) {
-            self.under[usize::from(node)] = call;
+            self.under[node as usize] = call;
         } else {
             self.put_at_node(call, node, shape);
         }
-        self.holders[usize::from(node)] = call;
+        self.holders[node as usize] = call;
         self.held += 1;
     }
 
-    pub fn free(&mut self, node: u16) {
-        self.holders[usize::from(node)] = NOBODY;
+    pub fn free(&mut self, node: u32) {
+        self.holders[node as usize] = NOBODY;
         self.held -= 1;
     }
 

@@ -33,7 +33,7 @@ struct Parts {
     ends: Vec<Record>,
     events: Vec<Event>,
     procedures: Vec<(String, String)>,
-    parents: Vec<u16>,
+    parents: Vec<u32>,
     records: Vec<Record>,
 }
 
@@ -55,7 +55,7 @@ impl Parts {
             return None;
         }
         let is_there = |event: &Event| {
-            (event.call() as usize) < calls.len() && event.node().is_none_or(|node| usize::from(node) < ends.len())
+            (event.call() as usize) < calls.len() && event.node().is_none_or(|node| (node as usize) < ends.len())
         };
         if !events.iter().all(is_there) {
             return None;
@@ -102,7 +102,7 @@ fn member(parser: &mut Parser, name: &str) -> Option<()> {
     parser.expect(b':')
 }
 
-fn tree(parser: &mut Parser, width: &mut Width) -> Option<(Vec<u16>, Vec<Record>)> {
+fn tree(parser: &mut Parser, width: &mut Width) -> Option<(Vec<u32>, Vec<Record>)> {
     parser.expect(b'{')?;
     member(parser, "parents")?;
     let parents = parser.list(number)?;
@@ -176,7 +176,7 @@ fn event(parser: &mut Parser, width: &mut Width) -> Option<Event> {
     Some(event)
 }
 
-fn touched(parser: &mut Parser, width: &mut Width) -> Option<(u16, Record)> {
+fn touched(parser: &mut Parser, width: &mut Width) -> Option<(u32, Record)> {
     parser.expect(b',')?;
     let node = number(parser)?;
     parser.expect(b',')?;

@@ -270,8 +270,8 @@ fn json_is_read() {
 }
 
 /// A tree of four levels, each node with four children.
-fn parents() -> Vec<u16> {
-    (0..85u16).map(|node| node.saturating_sub(1) / 4).collect()
+fn parents() -> Vec<u32> {
+    (0..85u32).map(|node| node.saturating_sub(1) / 4).collect()
 }
 
 #[test]

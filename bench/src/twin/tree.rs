@@ -14,14 +14,14 @@ pub type Record = [i64; FIELDS];
 /// The parents of a tree's nodes, and each node's children, all in one array.
 #[derive(Clone, Debug, PartialEq)]
 pub struct Shape {
-    parents: Vec<u16>,
+    parents: Vec<u32>,
     /// one a node and one more: where its children begin
-    starts: Vec<u16>,
-    children: Vec<u16>,
+    starts: Vec<u32>,
+    children: Vec<u32>,
 }
 
 impl Shape {
-    pub fn new(parents: Vec<u16>) -> Result<Shape, Fault> {
+    pub fn new(parents: Vec<u32>) -> Result<Shape, Fault> {
         if parents.is_empty() {
             return Err(Fault::plain(101));
         }
@@ -31,7 +31,7 @@ impl Shape {
         if parents[0] != 0 {
             return Err(Fault::plain(103));
         }
-        if let Some((node, _)) = parents.iter().enumerate().skip(1).find(|&(node, &parent)| usize::from(parent) >= node) {
+        if let Some((node, _)) = parents.iter().enumerate().skip(1).find(|&(node, &parent)| parent as usize >= node) {
             return Err(Fault::at(104, node));
         }
         let (starts, children) = children_of(&parents);
@@ -42,28 +42,28 @@ impl Shape {
         self.parents.len()
     }
 
-    pub fn parents(&self) -> &[u16] {
+    pub fn parents(&self) -> &[u32] {
         &self.parents
     }
 
     /// The parent of a node; the root's is the root.
-    pub fn parent(&self, node: u16) -> u16 {
-        self.parents[usize::from(node)]
+    pub fn parent(&self, node: u32) -> u32 {
+        self.parents[node as usize]
     }
 
     /// The children of a node, by rising number.
     #[inline]
-    pub fn children(&self, node: u16) -> &[u16] {
-        let node = usize::from(node);
-        &self.children[usize::from(self.starts[node])..usize::from(self.starts[node + 1])]
+    pub fn children(&self, node: u32) -> &[u32] {
+        let node = node as usize;
+        &self.children[(self.starts[node] as usize)..self.starts[node + 1] as usize]
     }
 }
 
 /// Where each node's children begin, and the children, node by node.
-fn children_of(parents: &[u16]) -> (Vec<u16>, Vec<u16>) {
+fn children_of(parents: &[u32]) -> (Vec<u32>, Vec<u32>) {
     let mut starts = vec![0; parents.len() + 1];
     for &parent in &parents[1..] {
-        starts[usize::from(parent) + 1] += 1;
+        starts[parent as usize + 1] += 1;
     }
     for node in 0..parents.len() {
         starts[node + 1] += starts[node];
@@ -71,8 +71,8 @@ fn children_of(parents: &[u16]) -> (Vec<u16>, Vec<u16>) {
     let mut places = starts.clone();
     let mut children = vec![0; parents.len() - 1];
     for (node, &parent) in parents.iter().enumerate().skip(1) {
-        let place = &mut places[usize::from(parent)];
-        children[usize::from(*place)] = node as u16;
+        let place = &mut places[parent as usize];
+        children[*place as usize] = node as u32;
         *place += 1;
     }
     (starts, children)
@@ -85,7 +85,7 @@ pub struct Tree {
 }
 
 impl Tree {
-    pub fn new(parents: Vec<u16>, records: Vec<Record>) -> Result<Tree, Fault> {
+    pub fn new(parents: Vec<u32>, records: Vec<Record>) -> Result<Tree, Fault> {
         let shape = Arc::new(Shape::new(parents)?);
         if records.len() != shape.node_count() {
             return Err(Fault::plain(105));

@@ -82,19 +82,19 @@ fn run_groups(stepper: &mut impl Steps, args: &[i64]) -> Result<Took, Fault> {
     Ok(took)
 }
 
-fn core_of(code: &[u8], parents: &[u16]) -> Result<Core, Fault> {
+fn core_of(code: &[u8], parents: &[u32]) -> Result<Core, Fault> {
     let mut core = Core::new(tree_of(parents.to_vec())?);
     core.add_procedure("call", procedure_of(code)?)?;
     Ok(core)
 }
 
-fn interleaved(code: &[u8], parents: &[u16], args: &[i64]) -> Result<(Core, Took), Fault> {
+fn interleaved(code: &[u8], parents: &[u32], args: &[i64]) -> Result<(Core, Took), Fault> {
     let mut core = core_of(code, parents)?;
     let took = run_groups(&mut core, args)?;
     Ok((core, took))
 }
 
-fn running(code: &[u8], parents: &[u16], args: &[i64]) -> Result<(Running, Took), Fault> {
+fn running(code: &[u8], parents: &[u32], args: &[i64]) -> Result<(Running, Took), Fault> {
     let mut running = Running::new(core_of(code, parents)?);
     let took = run_groups(&mut running, args)?;
     Ok((running, took))
@@ -107,7 +107,7 @@ fn mix_core(measured: &mut Measured, core: &Core) {
 }
 
 /// Calls of one procedure take turns. What each group took is told as far as there is room.
-pub fn interleave(code: &[u8], parents: &[u16], args: &[i64], nanos: &mut [u64], steps: &mut [u64]) -> Measured {
+pub fn interleave(code: &[u8], parents: &[u32], args: &[i64], nanos: &mut [u64], steps: &mut [u64]) -> Measured {
     let Ok((core, took)) = interleaved(code, parents, args) else { return Measured::REFUSED };
     for (place, told) in nanos.iter_mut().zip(&took.nanos) {
         *place = *told;
@@ -122,7 +122,7 @@ pub fn interleave(code: &[u8], parents: &[u16], args: &[i64], nanos: &mut [u64],
 }
 
 /// The same: what the admissions took.
-pub fn admit(code: &[u8], parents: &[u16], args: &[i64]) -> Measured {
+pub fn admit(code: &[u8], parents: &[u32], args: &[i64]) -> Measured {
     let Ok((core, took)) = interleaved(code, parents, args) else { return Measured::REFUSED };
     let mut measured = Measured { nanos: took.admitting, count: core.call_count() as u64, sum: 0 };
     mix_core(&mut measured, &core);
@@ -130,7 +130,7 @@ pub fn admit(code: &[u8], parents: &[u16], args: &[i64]) -> Measured {
 }
 
 /// The same with the order kept up to date.
-pub fn keep(code: &[u8], parents: &[u16], args: &[i64]) -> Measured {
+pub fn keep(code: &[u8], parents: &[u32], args: &[i64]) -> Measured {
     let Ok((running, took)) = running(code, parents, args) else { return Measured::REFUSED };
     let core = running.core();
     let mut measured =
@@ -141,7 +141,7 @@ pub fn keep(code: &[u8], parents: &[u16], args: &[i64]) -> Measured {
 }
 
 /// The calls' order is run again.
-pub fn replay(code: &[u8], parents: &[u16], args: &[i64]) -> Measured {
+pub fn replay(code: &[u8], parents: &[u32], args: &[i64]) -> Measured {
     let Ok((running, _)) = running(code, parents, args) else { return Measured::REFUSED };
     let mut measured = Measured { count: running.core().call_count() as u64, ..Measured::default() };
     let again = timed(&mut measured.nanos, || run_again(running.order(), running.core()));
@@ -152,7 +152,7 @@ pub fn replay(code: &[u8], parents: &[u16], args: &[i64]) -> Measured {
 }
 
 /// The calls, and then a seal.
-pub fn seal(code: &[u8], parents: &[u16], args: &[i64]) -> Measured {
+pub fn seal(code: &[u8], parents: &[u32], args: &[i64]) -> Measured {
     let Ok((mut running, _)) = running(code, parents, args) else { return Measured::REFUSED };
     let mut measured = Measured { count: 1, ..Measured::default() };
     let next = timed(&mut measured.nanos, || {
@@ -190,14 +190,14 @@ fn blocked(code: &[u8], times: u32) -> Result<Measured, Fault> {
 }
 
 /// The calls, and then the text of their trail.
-pub fn tell(code: &[u8], parents: &[u16], args: &[i64]) -> Option<String> {
+pub fn tell(code: &[u8], parents: &[u32], args: &[i64]) -> Option<String> {
     let (core, _) = interleaved(code, parents, args).ok()?;
     Some(write_trail(&trail_of(&core)))
 }
 
 /// Engines made anew, each of which runs a call for each argument in batches on so many threads. Which of two calls on one node
 /// comes first is chance, so the replies are added up.
-pub fn engines(code: &[u8], parents: &[u16], args: &[i64], workers: usize, engines: u32) -> Measured {
+pub fn engines(code: &[u8], parents: &[u32], args: &[i64], workers: usize, engines: u32) -> Measured {
     let mut measured = Measured::default();
     for _ in 0..engines {
         let Ok(tree) = tree_of(parents.to_vec()) else { return Measured::REFUSED };

@@ -32,7 +32,7 @@ fn record_of(node: usize) -> Record {
     std::array::from_fn(|field| (field as i64 + 1) * node as i64)
 }
 
-pub fn tree_of(parents: Vec<u16>) -> Result<Tree, Fault> {
+pub fn tree_of(parents: Vec<u32>) -> Result<Tree, Fault> {
     let records = (0..parents.len()).map(record_of).collect();
     Tree::new(parents, records)
 }
@@ -87,7 +87,7 @@ fn mix_trail(measured: &mut Measured, trail: &Trail) {
 }
 
 /// Runs the procedure alone on a chain of nodes, again and again.
-pub fn run(code: &[u8], nodes: u16, args: &[i64], times: u32) -> Measured {
+pub fn run(code: &[u8], nodes: u32, args: &[i64], times: u32) -> Measured {
     let parents = (0..nodes).map(|node| node.saturating_sub(1)).collect();
     let (Ok(procedure), Ok(mut tree)) = (procedure_of(code), tree_of(parents)) else { return Measured::REFUSED };
     let mut measured = Measured::default();

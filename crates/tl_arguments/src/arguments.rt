@@ -12,6 +12,9 @@ use std::alloc::{AllocError, Global};
 /// The program's version, and the logic by which it was proved.
 pub const VERSION: &str = "0.1.0 (proved with Rattle, logic dac8208d650f15bf)";
 
+/// The most nodes that a tree may have by `--nodes`.
+pub const MOST_NODES: u32 = 65_535;
+
 // ---- rows that several commands have
 
 fn tree() -> Row {
@@ -24,7 +27,7 @@ fn nodes() -> Row {
         "N",
         "How many nodes a tree may have, 1 to 65535; 4096 if not given",
     )
-    .as_a(Reading::Positive)
+    .as_a(Reading::Nodes)
 }
 
 fn save() -> Row {
@@ -75,6 +78,7 @@ fn read_as<'a>(arg: Arg<'a>, reading: Reading) -> Arg<'a> {
         Reading::Files => arg.action(ArgAction::Append).num_args(1..),
         Reading::Number => arg.value_parser(value_parser!(u16)),
         Reading::Positive => arg.value_parser(value_parser!(u16).range(1..)),
+        Reading::Nodes => arg.value_parser(value_parser!(u32).range(1..=i64::from(MOST_NODES))),
         Reading::Places => arg.value_parser(value_parser!(u16).range(1..=1024)),
         Reading::Epochs => arg.value_parser(value_parser!(u16).range(1..=128)),
         Reading::Workers => arg.value_parser(value_parser!(usize).range(1..=16)),

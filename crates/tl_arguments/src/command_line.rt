@@ -184,7 +184,7 @@ pub enum Request<'a> {
 #[derive(Drop)]
 pub enum Asked<'a> {
     /// A request, and how many nodes a tree may have in it.
-    Request { request: Request<'a>, nodes: u16 },
+    Request { request: Request<'a>, nodes: u32 },
     Explanation { number: u16 },
     Told(Error),
     /// Options that don't go together, and why.
@@ -356,7 +356,7 @@ fn file_command<'a>(name: &str, words: &ArgMatches<'a>) -> Option<FileCommand<'a
 }
 
 // How many nodes a tree may have in a command.
-fn nodes_of(name: &str, words: &ArgMatches<'_>) -> u16 {
+fn nodes_of(name: &str, words: &ArgMatches<'_>) -> u32 {
     match name {
         "alone" | "audit" | "drive" | "run" | "serve" | "widen" => {
             words.get_one("nodes").unwrap_or(USUAL_NODES)

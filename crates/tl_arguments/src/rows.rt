@@ -14,6 +14,8 @@ pub(crate) enum Reading {
     Number,
     /// 1 to 65,535.
     Positive,
+    /// 1 to `MOST_NODES`.
+    Nodes,
     /// 1 to 1,024.
     Places,
     /// 1 to 128.

@@ -111,7 +111,7 @@ fn check_ends(trail: &Trail, records: &[Record]) -> Result<(), AuditFault>
 {
     let ends = trail.ends();
     for node in 0..trail.opening().shape().node_count() {
-        if ends[usize::from(node)] != records[usize::from(node)] {
+        if ends[node as usize] != records[node as usize] {
             return Err(AuditFault::WrongEnd { node });
         }
     }

@@ -32,7 +32,7 @@ pub enum AuditFault {
     Unfinished { call: u32 },
     /// 716 and the node: its record in the end isn't the last one left, or, if none was left, the opening record.
     #[error("node {node} has another record in the end than was left")]
-    WrongEnd { node: u16 },
+    WrongEnd { node: u32 },
     /// 717 and the call: its reply isn't that of the same run alone.
     #[error("the reply of call {call} isn't what its procedure answers")]
     WrongReply { call: u32 },

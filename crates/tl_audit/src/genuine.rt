@@ -54,7 +54,7 @@ fn wait(turn: &mut Turn) -> Stop
 
 /// Goes on to the call's next lock or free. Whether it is a lock of the node; if so, the lock is done and finds this
 /// record.
-pub(crate) fn locks(turn: &mut Turn, node: u16, found: Record) -> bool
+pub(crate) fn locks(turn: &mut Turn, node: u32, found: Record) -> bool
     ensures parents { turn.new.parents ≡ turn.old.parents }
     ensures on { IsTrue result → (t : Records) (whole : Run) (so_far : List Action) → AreFit t (did.Lock node found ∷ so_far)
         → IsOn t whole so_far turn.old → IsOn t whole (did.Lock node found ∷ so_far) turn.new }
@@ -72,7 +72,7 @@ pub(crate) fn locks(turn: &mut Turn, node: u16, found: Record) -> bool
 }
 
 /// Goes on to the call's next lock or free. Whether it is a free of the node that leaves this record.
-pub(crate) fn frees(turn: &mut Turn, node: u16, left: &Record) -> bool
+pub(crate) fn frees(turn: &mut Turn, node: u32, left: &Record) -> bool
     ensures parents { turn.new.parents ≡ turn.old.parents }
     ensures on { IsTrue result → (t : Records) (whole : Run) (so_far : List Action)
         → IsOn t whole so_far turn.old → IsOn t whole (did.Free node left.now ∷ so_far) turn.new }

@@ -100,7 +100,7 @@ impl Replays {
     }
 
     // A call locks a node.
-    fn lock(&mut self, call: u32, node: u16, found: Record)
+    fn lock(&mut self, call: u32, node: u32, found: Record)
         requires { call < length self.old.turns.items }
         ensures { (trail : TrailValue) (later past : List EventValue) → IsAt trail later (event.Lock node call found) past
             → IsFollowed trail past self.old → IsFollowed trail (event.Lock node call found ∷ past) self.new }
@@ -116,7 +116,7 @@ impl Replays {
     }
 
     // A call frees a node.
-    fn free(&mut self, call: u32, node: u16, left: &Record)
+    fn free(&mut self, call: u32, node: u32, left: &Record)
         requires { call < length self.old.turns.items }
         ensures { (trail : TrailValue) (later past : List EventValue) → IsAt trail later (event.Free node call left.now) past
             → IsFollowed trail past self.old → IsFollowed trail (event.Free node call left.now ∷ past) self.new }

@@ -31,7 +31,7 @@ impl Watch {
     pub(crate) fn new(alloc: Global, calls: u32, opening: &Tree) -> Result<Watch, AllocError>
         ensures { IfOk result (λ w. Shows opening.now.parents opening.now.records calls w []) }
     {
-        let nodes = usize::from(opening.shape().node_count());
+        let nodes = opening.shape().node_count() as usize;
         let mut records = Vec::with_capacity(alloc, nodes)?;
         records.extend_from_slice(opening.records())?;
         Ok(Watch {
@@ -47,7 +47,7 @@ impl Watch {
             → Shows parents opening calls self.now past → IsTrue result ↔ FindsNow opening past event.now }
     {
         match *event {
-            Event::Lock { node, found, .. } => found == self.records[usize::from(node)],
+            Event::Lock { node, found, .. } => found == self.records[node as usize],
             _ => true,
         }
     }
@@ -86,7 +86,7 @@ impl Watch {
     {
         self.order.note(shape, event);
         if let Event::Free { node, left, .. } = *event {
-            self.records[usize::from(node)] = left;
+            self.records[node as usize] = left;
         }
     }
 

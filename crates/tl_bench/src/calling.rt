@@ -13,7 +13,7 @@ use tl_instr::decode;
 use tl_machine::{Segment, Turn, alone, local};
 use tl_verify::verify;
 
-fn ran(alloc: Global, code: &[u8], nodes: u16, args: &[i64], times: u32) -> Option<Measured> {
+fn ran(alloc: Global, code: &[u8], nodes: u32, args: &[i64], times: u32) -> Option<Measured> {
     let procedure = Arc::new(alloc, procedure_of(alloc, code)?).ok()?;
     let mut tree = tree_of(alloc, &chain(alloc, nodes)?)?;
     let mut measured = Measured::none();
@@ -34,7 +34,7 @@ fn ran(alloc: Global, code: &[u8], nodes: u16, args: &[i64], times: u32) -> Opti
 pub extern "C" fn treedb_run(
     alloc: Global,
     code: &[u8],
-    nodes: u16,
+    nodes: u32,
     args: &[i64],
     times: u32,
 ) -> Measured {

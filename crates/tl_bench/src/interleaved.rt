@@ -136,7 +136,7 @@ fn run_groups<S: Steps>(
     Some(took)
 }
 
-fn core_of(alloc: Global, code: &[u8], parents: &[u16]) -> Option<Core> {
+fn core_of(alloc: Global, code: &[u8], parents: &[u32]) -> Option<Core> {
     let procedure = procedure_of(alloc, code)?;
     let mut core = Core::new(alloc, tree_of(alloc, parents)?).ok()?;
     core.add_proc(alloc, NAME, procedure).ok()?;
@@ -155,7 +155,7 @@ fn measured_of(nanos: u64, count: usize, core: &Core) -> Measured {
 fn interleaved(
     alloc: Global,
     code: &[u8],
-    parents: &[u16],
+    parents: &[u32],
     args: &[i64],
     nanos: &mut [u64],
     steps: &mut [u64],
@@ -183,7 +183,7 @@ fn interleave(
 pub extern "C" fn treedb_interleave(
     alloc: Global,
     code: &[u8],
-    parents: &[u16],
+    parents: &[u32],
     args: &[i64],
     nanos: &mut [u64],
     steps: &mut [u64],
@@ -191,7 +191,7 @@ pub extern "C" fn treedb_interleave(
     Measured::or_refused(interleaved(alloc, code, parents, args, nanos, steps))
 }
 
-fn admitted(alloc: Global, code: &[u8], parents: &[u16], args: &[i64]) -> Option<Measured> {
+fn admitted(alloc: Global, code: &[u8], parents: &[u32], args: &[i64]) -> Option<Measured> {
     let mut core = core_of(alloc, code, parents)?;
     admit_all(alloc, &mut core, args)
 }
@@ -206,7 +206,7 @@ fn admit_all(alloc: Global, core: &mut Core, args: &[i64]) -> Option<Measured> {
 pub extern "C" fn treedb_admit(
     alloc: Global,
     code: &[u8],
-    parents: &[u16],
+    parents: &[u32],
     args: &[i64],
 ) -> Measured {
     Measured::or_refused(admitted(alloc, code, parents, args))
@@ -216,7 +216,7 @@ pub extern "C" fn treedb_admit(
 fn running_of(
     alloc: Global,
     code: &[u8],
-    parents: &[u16],
+    parents: &[u32],
     args: &[i64],
 ) -> Option<(Running, Took)> {
     let mut running = Running::new(alloc, core_of(alloc, code, parents)?).ok()?;
@@ -226,7 +226,7 @@ fn running_of(
     }
 }
 
-fn kept(alloc: Global, code: &[u8], parents: &[u16], args: &[i64]) -> Option<Measured> {
+fn kept(alloc: Global, code: &[u8], parents: &[u32], args: &[i64]) -> Option<Measured> {
     let (running, took) = running_of(alloc, code, parents, args)?;
     let mut measured = Measured::none();
     mix_order(running.order(), &mut measured);
@@ -241,13 +241,13 @@ fn kept(alloc: Global, code: &[u8], parents: &[u16], args: &[i64]) -> Option<Mea
 pub extern "C" fn treedb_keep(
     alloc: Global,
     code: &[u8],
-    parents: &[u16],
+    parents: &[u32],
     args: &[i64],
 ) -> Measured {
     Measured::or_refused(kept(alloc, code, parents, args))
 }
 
-fn replayed(alloc: Global, code: &[u8], parents: &[u16], args: &[i64]) -> Option<Measured> {
+fn replayed(alloc: Global, code: &[u8], parents: &[u32], args: &[i64]) -> Option<Measured> {
     let (running, _) = running_of(alloc, code, parents, args)?;
     replay_all(alloc, &running)
 }
@@ -279,13 +279,13 @@ fn replay_along(alloc: Global, core: &Core, order: &Order) -> Option<Measured>
 pub extern "C" fn treedb_replay(
     alloc: Global,
     code: &[u8],
-    parents: &[u16],
+    parents: &[u32],
     args: &[i64],
 ) -> Measured {
     Measured::or_refused(replayed(alloc, code, parents, args))
 }
 
-fn sealed(alloc: Global, code: &[u8], parents: &[u16], args: &[i64]) -> Option<Measured> {
+fn sealed(alloc: Global, code: &[u8], parents: &[u32], args: &[i64]) -> Option<Measured> {
     let (mut running, _) = running_of(alloc, code, parents, args)?;
     seal(alloc, &mut running)
 }
@@ -308,7 +308,7 @@ fn seal(alloc: Global, running: &mut Running) -> Option<Measured> {
 pub extern "C" fn treedb_seal(
     alloc: Global,
     code: &[u8],
-    parents: &[u16],
+    parents: &[u32],
     args: &[i64],
 ) -> Measured {
     Measured::or_refused(sealed(alloc, code, parents, args))
@@ -346,7 +346,7 @@ pub extern "C" fn treedb_block(alloc: Global, code: &[u8], times: u32) -> Measur
 fn told(
     alloc: Global,
     code: &[u8],
-    parents: &[u16],
+    parents: &[u32],
     args: &[i64],
     text: &mut [u8],
 ) -> Option<Measured> {
@@ -375,7 +375,7 @@ fn put_trail(alloc: Global, trail: &Trail, text: &mut [u8]) -> Option<Measured> 
 pub extern "C" fn treedb_tell(
     alloc: Global,
     code: &[u8],
-    parents: &[u16],
+    parents: &[u32],
     args: &[i64],
     text: &mut [u8],
 ) -> Measured {

@@ -7,14 +7,14 @@ use tl_tree::{Record, Shape, Tree, USUAL_NODES};
 use tl_verify::{Proc, verify};
 
 // The opening record of a node: one to eight times the node's number.
-fn record_of(node: u16) -> Record {
+fn record_of(node: u32) -> Record {
     let n = i64::from(node);
     [n, 2 * n, 3 * n, 4 * n, 5 * n, 6 * n, 7 * n, 8 * n]
 }
 
 /// The parents of a chain of `nodes` nodes.
-pub fn chain(alloc: Global, nodes: u16) -> Option<Vec<u16>> {
-    let mut parents = Vec::with_capacity(alloc, usize::from(nodes)).ok()?;
+pub fn chain(alloc: Global, nodes: u32) -> Option<Vec<u32>> {
+    let mut parents = Vec::with_capacity(alloc, nodes as usize).ok()?;
     for node in 0..nodes {
         parents.push(node.saturating_sub(1)).ok()?;
     }
@@ -22,14 +22,14 @@ pub fn chain(alloc: Global, nodes: u16) -> Option<Vec<u16>> {
 }
 
 /// The tree with these parents, if they form a tree.
-pub fn tree_of(alloc: Global, parents: &[u16]) -> Option<Tree> {
+pub fn tree_of(alloc: Global, parents: &[u32]) -> Option<Tree> {
     let mut numbers = Vec::with_capacity(alloc, parents.len()).ok()?;
     for parent in parents {
         numbers.push(i64::from(*parent)).ok()?;
     }
     let shape = Shape::new(alloc, &numbers, USUAL_NODES).ok()?;
     let nodes = shape.node_count();
-    let mut records = Vec::with_capacity(alloc, usize::from(nodes)).ok()?;
+    let mut records = Vec::with_capacity(alloc, nodes as usize).ok()?;
     for node in 0..nodes {
         records.push(record_of(node)).ok()?;
     }

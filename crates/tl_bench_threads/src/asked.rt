@@ -8,9 +8,9 @@ pub struct Asked<'w> {
     /// How many threads run a batch; 0 to drive a core without an engine.
     pub workers: usize,
     /// How many nodes the tree has.
-    pub nodes: u16,
+    pub nodes: u32,
     /// How many nodes a chain has, at least 1.
-    pub chain: u16,
+    pub chain: u32,
     /// How many engines or cores are made.
     pub engines: u32,
 }

@@ -47,7 +47,7 @@ pub struct Archive<R> {
     trails: Trails,
     succession: Succession,
     // How many nodes the tree may have.
-    nodes: u16,
+    nodes: u32,
     // How many engines were closed.
     count: u64,
     // What the last one did, until it is written; and whether the succession has taken it.
@@ -60,7 +60,7 @@ pub struct Archive<R> {
 }
 
 impl<R: Files + Eprint> Archive<R> {
-    pub fn new(rt: R, trails: Trails, succession: Succession, nodes: u16) -> Archive<R> {
+    pub fn new(rt: R, trails: Trails, succession: Succession, nodes: u32) -> Archive<R> {
         Archive {
             rt,
             trails,
@@ -199,7 +199,7 @@ impl<R: Files + Eprint> Keeper for Archive<R> {
         next_engine(alloc, &self.succession).ok()
     }
 
-    fn nodes(&self) -> u16 {
+    fn nodes(&self) -> u32 {
         self.succession.last().tree().shape().node_count()
     }
 
@@ -207,7 +207,7 @@ impl<R: Files + Eprint> Keeper for Archive<R> {
         self.succession.check_growth(parents, self.nodes)
     }
 
-    fn grow(&mut self, alloc: Global, parents: &[i64]) -> Result<u16, GrowthFault> {
+    fn grow(&mut self, alloc: Global, parents: &[i64]) -> Result<u32, GrowthFault> {
         if !self.has_taken(alloc) {
             return Err(GrowthFault::Memory);
         }

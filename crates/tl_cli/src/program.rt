@@ -54,7 +54,7 @@ struct Scripted<'a> {
 
 impl Scripted<'_> {
     // What they have, where the files of procedures give these, and the tree may have so many nodes.
-    fn inputs<'n>(&'n self, sources: &'n [Given<'n>], limit: u16) -> Inputs<'n> {
+    fn inputs<'n>(&'n self, sources: &'n [Given<'n>], limit: u32) -> Inputs<'n> {
         Inputs {
             tree: &self.tree.bytes,
             script: &self.script.bytes,
@@ -74,11 +74,11 @@ fn has_language(path: &str) -> bool {
 pub struct Program<'a, R> {
     rt: &'a R,
     is_terminal: bool,
-    nodes: u16,
+    nodes: u32,
 }
 
 impl<'a, R: Files + Print + Eprint + AllocGlobal> Program<'a, R> {
-    pub fn new(rt: &'a R, is_terminal: bool, nodes: u16) -> Program<'a, R> {
+    pub fn new(rt: &'a R, is_terminal: bool, nodes: u32) -> Program<'a, R> {
         Program {
             rt,
             is_terminal,
@@ -394,7 +394,7 @@ where
     ) -> Result<String, Failure<'p>>
     where
         K: Keeper + Texts + Finish + Send + Drop,
-        F: FnOnce(Trails, Succession, u16) -> K + Drop,
+        F: FnOnce(Trails, Succession, u32) -> K + Drop,
         requires { F.IsAlwaysCallable archive }
     {
         match command {
@@ -451,7 +451,7 @@ where
     ) -> Result<String, Failure<'p>>
     where
         K: Keeper + Texts + Finish + Send + Drop,
-        F: FnOnce(Trails, Succession, u16) -> K + Drop,
+        F: FnOnce(Trails, Succession, u32) -> K + Drop,
         J: Journal + End + Sync + Drop,
         O: FnOnce(&str, Option<Tree>, Option<&str>) -> Result<Stored<J>, StoreRefusal> + Drop,
         E: Epochs + Drop,
@@ -503,7 +503,7 @@ where
     ) -> u8
     where
         K: Keeper + Texts + Finish + Send + Drop,
-        F: FnOnce(Trails, Succession, u16) -> K + Drop,
+        F: FnOnce(Trails, Succession, u32) -> K + Drop,
         J: Journal + End + Sync + Drop,
         O: FnOnce(&str, Option<Tree>, Option<&str>) -> Result<Stored<J>, StoreRefusal> + Drop,
         E: Epochs + Drop,

@@ -98,7 +98,7 @@ pub fn alone_cmd(
     source: Source<'_>,
     name: Option<&str>,
     args: &str,
-    limit: u16,
+    limit: u32,
 ) -> Result<RanAlone, CliFault>
     ensures ran { IfOk result (IsRunAlone limit tree.now source.entry (option_map (λ n. n.now) name.entry) args.now) }
     ensures fault { IfErr result (IsFirstAloneFault limit tree.now source.entry (option_map (λ n. n.now) name.entry) args.now) }

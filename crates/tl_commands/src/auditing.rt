@@ -57,7 +57,7 @@ fn audit_trail_text<P: Progress>(
     alloc: Global,
     text: &str,
     progress: &mut P,
-    limit: u16,
+    limit: u32,
 ) -> Result<String, CliFault>
     ensures printed { IfOk result (λ s. AuditsTrail limit text.now (string_bytes s)) }
     ensures fault { IfErr result (λ e. IsFirstTrailAuditFault limit text.now e) }
@@ -77,7 +77,7 @@ fn audit_chain_text<P: Progress>(
     alloc: Global,
     text: &str,
     progress: &mut P,
-    limit: u16,
+    limit: u32,
 ) -> Result<String, CliFault>
     ensures printed { IfOk result (λ s. AuditsChain limit text.now (string_bytes s)) }
     ensures fault { IfErr result (λ e. IsFirstChainAuditFault limit text.now e) }
@@ -104,7 +104,7 @@ pub fn audit_cmd<P: Progress>(
     alloc: Global,
     file: &[u8],
     progress: &mut P,
-    limit: u16,
+    limit: u32,
 ) -> Result<String, CliFault>
     ensures printed { IfOk result (λ s. Audits limit file.now (string_bytes s)) }
     ensures fault { IfErr result (λ e. IsFirstAuditFault limit file.now e) }
@@ -124,7 +124,7 @@ pub(crate) fn trails_of_text(
     alloc: Global,
     text: &str,
     is_list: bool,
-    limit: u16,
+    limit: u32,
 ) -> Result<Vec<Trail>, CliFault>
     ensures ok { IfOk result (λ ts. AreTrailsOf limit is_list text.now ts.items) }
     ensures some { IfOk result (λ ts. 0 < length ts.items) }
@@ -211,7 +211,7 @@ pub fn audit_next_cmd<P: Progress>(
     file: &[u8],
     before: Option<&Trail>,
     progress: &mut P,
-    limit: u16,
+    limit: u32,
 ) -> Result<AuditedFile, CliFault>
     ensures printed { IfOk result (λ r. AuditsNext limit (option_copied before.entry) file.now (string_bytes r.line) r.last (map string_bytes r.replaced.items)) }
     ensures fault { IfErr result (λ e. IsFirstNextFault limit (option_copied before.entry) file.now e) }

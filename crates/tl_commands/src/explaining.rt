@@ -41,7 +41,7 @@ fn has_ended(events: &[Event], call: u32) -> bool {
 }
 
 // The event at which the call locked the node.
-fn locked_at(events: &[Event], call: u32, node: u16) -> Option<usize> {
+fn locked_at(events: &[Event], call: u32, node: u32) -> Option<usize> {
     for at in 0..events.len() {
         if let Event::Lock {
             node: locked,
@@ -58,7 +58,7 @@ fn locked_at(events: &[Event], call: u32, node: u16) -> Option<usize> {
 }
 
 // The call that holds the node, and since which event.
-fn holder_of(events: &[Event], node: u16) -> Option<(u32, usize)> {
+fn holder_of(events: &[Event], node: u32) -> Option<(u32, usize)> {
     let mut holder = None;
     for at in 0..events.len() {
         match events[at] {
@@ -75,7 +75,7 @@ fn holder_of(events: &[Event], node: u16) -> Option<(u32, usize)> {
 }
 
 // A node that the call holds.
-fn held_by(events: &[Event], call: u32) -> Option<u16> {
+fn held_by(events: &[Event], call: u32) -> Option<u32> {
     for event in events {
         if let Event::Lock { node, call: by, .. } = *event {
             let is_held = by == call && holder_of(events, node).is_some_and(|held| held.0 == call);
@@ -88,7 +88,7 @@ fn held_by(events: &[Event], call: u32) -> Option<u16> {
 }
 
 // The event at which a record was left in the node last.
-fn left_at(events: &[Event], node: u16) -> Option<usize> {
+fn left_at(events: &[Event], node: u32) -> Option<usize> {
     let mut last = None;
     for at in 0..events.len() {
         if let Event::Free { node: freed, .. } = events[at] {
@@ -146,7 +146,7 @@ fn lock_text(
     trail: &Trail,
     before: &[Event],
     call: u32,
-    node: u16,
+    node: u32,
 ) -> Result<String, AllocError> {
     if let Some(at) = locked_at(before, call, node) {
         return format!(in alloc; "it locked that node at event {at}, and a call locks a node once");
@@ -211,7 +211,7 @@ fn record_text(
     alloc: Global,
     trail: &Trail,
     before: &[Event],
-    node: u16,
+    node: u32,
 ) -> Result<String, AllocError> {
     if let Some(at) = left_at(before, node) {
         if let Some(event) = before.get(at) {
@@ -219,7 +219,7 @@ fn record_text(
             return format!(in alloc; "{left} was left there, at event {at}");
         }
     }
-    let opening = text_at(alloc, trail.opening().records(), usize::from(node))?;
+    let opening = text_at(alloc, trail.opening().records(), node as usize)?;
     format!(in alloc; "nothing was left there before, and the tree opens with {opening}")
 }
 
@@ -294,9 +294,9 @@ fn reply_text(alloc: Global, trail: &Trail, call: u32) -> Result<String, AllocEr
 }
 
 // What is wrong with the node's record in the end.
-fn end_text(alloc: Global, trail: &Trail, node: u16) -> Result<String, AllocError> {
+fn end_text(alloc: Global, trail: &Trail, node: u32) -> Result<String, AllocError> {
     let should = record_text(alloc, trail, trail.events(), node)?;
-    let end = text_at(alloc, trail.ends(), usize::from(node))?;
+    let end = text_at(alloc, trail.ends(), node as usize)?;
     format!(in alloc; "node {node} has {end} in the end, but {should}")
 }
 
@@ -405,7 +405,7 @@ pub fn explain_audit_fault(
     file: &[u8],
     before: Option<&Trail>,
     fault: CliFault,
-    limit: u16,
+    limit: u32,
 ) -> Result<String, CliFault> {
     let chain = match fault {
         CliFault::Audit(fault) => ChainFault::InEpoch { epoch: 0, fault },

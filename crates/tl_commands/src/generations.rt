@@ -87,7 +87,7 @@ impl Generation {
 pub fn open_generations(
     alloc: Global,
     tree: &[u8],
-    limit: u16,
+    limit: u32,
 ) -> Result<(Engine, Succession), CliFault>
     ensures seals { IfOk result (λ r. r.0.seals ≡ true) }
     ensures opened { IfOk result (λ r. BeginsWithFile limit tree.now r.1) }

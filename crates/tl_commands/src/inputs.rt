@@ -27,7 +27,7 @@ pub struct Inputs<'a> {
     pub tree: &'a [u8],
     pub script: &'a [u8],
     pub sources: &'a [Given<'a>],
-    pub limit: u16,
+    pub limit: u32,
 }
 
 /// The procedures of these files, file by file. Otherwise the first file that is refused, and why. 290 or 490 if memory is refused.
@@ -45,7 +45,7 @@ pub fn procedures_of_files(
 }
 
 /// The tree of at most `limit` nodes in a file. 106 if the file isn't UTF-8 or has another form, then 101 to 105.
-pub fn tree_of_file(alloc: Global, bytes: &[u8], limit: u16) -> Result<Tree, TreeFault>
+pub fn tree_of_file(alloc: Global, bytes: &[u8], limit: u32) -> Result<Tree, TreeFault>
     ensures ok { IfOk result (λ t. tree_of_text limit bytes.now ≡ Ok t) }
     ensures fault { IfErr result (λ f. f ≢ TreeFault.Memory → IsTreeFault limit bytes.now f) }
 {

@@ -21,7 +21,7 @@ use tl_table::Closed;
 use tl_workers::{Engine, Session};
 
 // A core of the tree of a file, without procedures and calls.
-fn core_of_file(alloc: Global, tree: &[u8], limit: u16) -> Result<Core, CliFault>
+fn core_of_file(alloc: Global, tree: &[u8], limit: u32) -> Result<Core, CliFault>
     ensures ok { IfOk result (λ core. (t : TreeValue) × (tree_of_text limit tree.now ≡ Ok t) × (core.seen ≡ core_with t [])) }
     ensures fault { IfErr result (λ e. IsOpeningFault limit tree.now e) }
 {
@@ -41,7 +41,7 @@ pub fn engine_of(alloc: Global, core: Core) -> Result<Engine, CliFault>
 /// of the file.
 ///
 /// 106 (also if the tree isn't UTF-8), 101 to 105, where the tree may have `limit` nodes. If memory was refused, 190, 690, 890 or 990.
-pub fn open_engine(alloc: Global, tree: &[u8], limit: u16) -> Result<(Engine, Succession), CliFault>
+pub fn open_engine(alloc: Global, tree: &[u8], limit: u32) -> Result<(Engine, Succession), CliFault>
     ensures opened { IfOk result (λ r. BeginsWithFile limit tree.now r.1) }
     ensures fault { IfErr result (λ e. IsOpeningFault limit tree.now e) }
 {

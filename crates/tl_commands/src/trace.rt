@@ -19,7 +19,7 @@ fn field_to_value(
     alloc: Global,
     letter: Letter,
     call: u32,
-    node: u16,
+    node: u32,
     field: u8,
     value: Value,
 ) -> Result<Value, AllocError>
@@ -34,7 +34,7 @@ fn emitted_to_value(alloc: Global, call: u32, value: Value) -> Result<Value, All
     json!(in alloc; [Letter::Emitted.as_str(), call, value])
 }
 
-fn blocked_to_value(alloc: Global, call: u32, node: u16, holder: u32) -> Result<Value, AllocError>
+fn blocked_to_value(alloc: Global, call: u32, node: u32, holder: u32) -> Result<Value, AllocError>
     ensures { IfOk result (λ v. view v ≡ lettered letter.Blocked (natural call ∷ natural node ∷ natural holder ∷ [])) }
 {
     json!(in alloc; [Letter::Blocked.as_str(), call, node, holder])

@@ -31,7 +31,7 @@ fn nodes_line(alloc: Global, tree: &Tree) -> Result<String, AllocError>
 /// of the tree's file. If its records all have four fields, the others are 0.
 ///
 /// Otherwise the tree's first fault, 101 to 106. If memory was refused, 190 or 990.
-pub fn widen_cmd(alloc: Global, tree: &[u8], limit: u16) -> Result<(String, String), CliFault>
+pub fn widen_cmd(alloc: Global, tree: &[u8], limit: u32) -> Result<(String, String), CliFault>
     ensures printed { IfOk result (λ r. WidensTree limit tree.now (string_bytes r.0) (string_bytes r.1)) }
     ensures fault { IfErr result (λ e. IsFirstWideningFault limit tree.now e) }
 {

@@ -103,8 +103,8 @@ impl Core {
         if self.slots.len() >= MAX_OPEN {
             return Err(CoreFault::TooManyOpen);
         }
-        let nodes = self.opening.shape().node_count();
-        let places = 2 * usize::from(proc.bounds().locks.min(nodes)) + 2;
+        let nodes = self.opening.shape().node_count() as usize;
+        let places = 2 * usize::from(proc.bounds().locks).min(nodes) + 2;
         if places > self.history.room() {
             return Err(CoreFault::HistoryFull);
         }

@@ -8,7 +8,7 @@ pub enum Followed {
     /// The segment's instructions and the lock or free after them are done: this is the call's turn now.
     Went(Turn),
     /// The call is about to lock `node`, which `holder` holds. Nothing was done.
-    Blocked { node: u16, holder: u32 },
+    Blocked { node: u32, holder: u32 },
     /// The segment's instructions are done, and the call has ended with this reply.
     Finished(Reply),
 }
@@ -19,7 +19,7 @@ pub enum TurnOutcome {
     /// The instructions are done, and so is the lock or free at which the call stopped.
     Advanced { stop: Stop },
     /// The call is about to lock `node`, which `holder` holds. Nothing was done.
-    Blocked { node: u16, holder: u32 },
+    Blocked { node: u32, holder: u32 },
     /// The instructions and the return are done: the call has ended.
     Finished,
 }

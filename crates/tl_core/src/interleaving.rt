@@ -89,7 +89,7 @@ impl Core {
         let Ok(latest) = tree.copy(alloc) else {
             return Err(CoreFault::Memory);
         };
-        let nodes = usize::from(tree.shape().node_count());
+        let nodes = tree.shape().node_count() as usize;
         let holders = vec![in alloc; None; nodes]?;
         let slots = Vec::with_capacity(alloc, MAX_OPEN)?;
         Ok(Core {

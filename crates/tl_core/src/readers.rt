@@ -35,7 +35,7 @@ impl Core {
     }
 
     /// The current record of a node.
-    pub fn record_at(&self, node: u16) -> Record
+    pub fn record_at(&self, node: u32) -> Record
         requires { node < length self.now.seen.parents }
         ensures { result ≡ record_now self.now.seen.past self.now.seen.opening node }
     {
@@ -43,12 +43,12 @@ impl Core {
     }
 
     /// The call that holds the node: it has locked it, and hasn't freed it since.
-    pub fn holder(&self, node: u16) -> Option<u32>
+    pub fn holder(&self, node: u32) -> Option<u32>
         requires { node < length self.now.seen.parents }
         ensures named { result ≡ holder_of self.now.seen.past node }
         ensures holds { (c : ℕ) → (result ≡ Some c) ↔ (held (part_of c self.now.seen.past) node ≡ true) }
     {
-        self.holders[usize::from(node)]
+        self.holders[node as usize]
     }
 
     /// What the calls have done to the tree, and the places for what they may still do.

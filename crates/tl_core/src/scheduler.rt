@@ -106,7 +106,7 @@ impl Core {
 
     // Locks the node at which the open call stops, unless another call holds it.
     #[inline(always)]
-    fn lock_or_block(&mut self, call: u32, node: u16) -> Stepped
+    fn lock_or_block(&mut self, call: u32, node: u32) -> Stepped
         requires { (t : TurnValue) × (kept_turn self.old call ≡ Some t) × Stops t (stop.Lock node) }
         ensures answer { Ok result ≡ step_answer (world_of self.old.seen) call }
         ensures last { IsNoLocal result }
@@ -117,7 +117,7 @@ impl Core {
         let Some(slot) = self.calls[call as usize].slot() else {
             unreachable!()
         };
-        let held_by = self.holders[usize::from(node)];
+        let held_by = self.holders[node as usize];
         if let Some(holder) = held_by {
             return Stepped::Blocked { node, holder };
         }
@@ -125,7 +125,7 @@ impl Core {
         let found = self.latest.record_at(node);
         current.turn.lock_node(node, found);
         current.places -= 1;
-        self.holders[usize::from(node)] = Some(call);
+        self.holders[node as usize] = Some(call);
         self.history.append(Event::Lock { call, node, found });
         Stepped::Moved {
             action: Action::Lock { node, found },
@@ -134,7 +134,7 @@ impl Core {
 
     // Frees the node at which the open call stops.
     #[inline(always)]
-    fn free(&mut self, call: u32, node: u16) -> Stepped
+    fn free(&mut self, call: u32, node: u32) -> Stepped
         requires { (t : TurnValue) × (kept_turn self.old call ≡ Some t) × Stops t (stop.Free node) }
         ensures answer { Ok result ≡ step_answer (world_of self.old.seen) call }
         ensures last { IsNoLocal result }
@@ -149,7 +149,7 @@ impl Core {
         let left = current.turn.free();
         current.places -= 1;
         self.latest.put_at(node, left);
-        self.holders[usize::from(node)] = None;
+        self.holders[node as usize] = None;
         self.history.append(Event::Free { call, node, left });
         Stepped::Moved {
             action: Action::Free { node, left },
@@ -215,7 +215,7 @@ impl Core {
             // A call that is over is done, and has no slot.
             Stop::Over => unreachable!(),
             Stop::Lock(node) => {
-                let held_by = self.holders[usize::from(node)];
+                let held_by = self.holders[node as usize];
                 Ok(held_by.is_none())
             }
             Stop::Free(_) | Stop::Return => Ok(true),

@@ -8,7 +8,7 @@ pub enum Stepped {
     /// The call did its next instruction.
     Moved { action: Action },
     /// The next instruction locks a node that another call holds. Nothing changed.
-    Blocked { node: u16, holder: u32 },
+    Blocked { node: u32, holder: u32 },
     /// The call is done. Nothing changed.
     Over,
 }

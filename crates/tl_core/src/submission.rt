@@ -166,7 +166,7 @@ impl Core {
     }
 
     // The node that is locked at the stop of a segment of the call, and the call that holds it.
-    fn in_the_way(&self, call: u32, stop: Stop) -> Option<(u16, u32)>
+    fn in_the_way(&self, call: u32, stop: Stop) -> Option<(u32, u32)>
         requires { (s : SegmentValue) × IsSegment s × (s.stop ≡ stop) × (kept_turn self.now call ≡ Some s.from) }
         ensures some { IfSome result (λ r. IsInTheWay self.now.seen stop r.0 r.1) }
         ensures none { IsNone result → (x d : ℕ) → IsInTheWay self.now.seen stop x d → ⊥ }
@@ -174,7 +174,7 @@ impl Core {
         let Stop::Lock(node) = stop else {
             return None;
         };
-        let holder = self.holders[usize::from(node)]?;
+        let holder = self.holders[node as usize]?;
         Some((node, holder))
     }
 

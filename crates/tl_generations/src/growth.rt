@@ -17,7 +17,7 @@ pub enum GrowthFault {
     TooMany,
     /// 104 and which new node it is, counted from 0: the first whose parent isn't a node with a lower number.
     #[error("the parent of new node {0} must have a lower number")]
-    BadParent(u16),
+    BadParent(u32),
     /// 190: memory was refused.
     #[error("out of memory")]
     Memory,
@@ -64,14 +64,14 @@ impl<T: Drop> From<AllocFailed<T>> for GrowthFault {
 
 /// Whether nodes of these parents can be appended to the tree of a shape, which has at most `limit` nodes then. The first fault: 102,
 /// then 104.
-pub(crate) fn check_growth(shape: &Shape, parents: &[i64], limit: u16) -> Result<(), GrowthFault>
+pub(crate) fn check_growth(shape: &Shape, parents: &[i64], limit: u32) -> Result<(), GrowthFault>
     ensures ok { OnOk result (CanGrow shape.now parents.now (map unsigned_abs parents.now)) }
     ensures few { OnOk result (length shape.now + length parents.now ≤ limit) }
     ensures fault { IfErr result (λ e. IsGrowthFault limit (length shape.now) parents.now e) }
     ensures known { IfErr result (λ e. e ≢ GrowthFault.Memory) }
 {
-    let first = usize::from(shape.node_count());
-    let limit = usize::from(limit);
+    let first = shape.node_count() as usize;
+    let limit = limit as usize;
     if first > limit || parents.len() > limit - first {
         return Err(GrowthFault::TooMany);
     }
@@ -83,7 +83,7 @@ pub(crate) fn grown_tree(
     alloc: Global,
     tree: &Tree,
     parents: &[i64],
-    limit: u16,
+    limit: u32,
 ) -> Result<Tree, GrowthFault>
     ensures ok { IfOk result (λ t. (added : List ℕ) × CanGrow tree.now.parents parents.now added
         × (t ≡ record { parents = tree.now.parents ++ added; records = with_zeros (length added) tree.now.records })) }
@@ -109,7 +109,7 @@ fn check_parents(parents: &[i64], first: usize) -> Result<(), GrowthFault>
     for index in 0..parents.len() {
         let parent = parents[index];
         if parent < 0 || parent >= (first + index) as i64 {
-            return Err(GrowthFault::BadParent(index as u16));
+            return Err(GrowthFault::BadParent(index as u32));
         }
     }
     Ok(())
@@ -121,7 +121,7 @@ fn grown_shape(alloc: Global, shape: &Shape, added: &[i64]) -> Result<Shape, All
     ensures { IfOk result (λ s. s ≡ shape.now ++ map unsigned_abs added.now) }
 {
     let parents = all_parents(alloc, shape, added)?;
-    match Shape::new(alloc, &parents, MAX_NODES as u16) {
+    match Shape::new(alloc, &parents, MAX_NODES as u32) {
         Ok(grown) => Ok(grown),
         Err(TreeFault::Memory) => Err(AllocError),
         // The parents are those of a tree.

@@ -103,7 +103,7 @@ impl Legacy {
 
     /// Whether nodes of these parents can be appended to the tree, which has at most `limit` nodes then. The faults are those of
     /// `grow`, but 190.
-    pub fn check_growth(&self, parents: &[i64], limit: u16) -> Result<(), GrowthFault>
+    pub fn check_growth(&self, parents: &[i64], limit: u32) -> Result<(), GrowthFault>
         ensures ok { OnOk result (CanGrow self.now.parents parents.now (map unsigned_abs parents.now)) }
         ensures few { OnOk result (length self.now.parents + length parents.now ≤ limit) }
         ensures fault { IfErr result (λ e. IsGrowthFault limit (length self.now.parents) parents.now e) }
@@ -117,7 +117,7 @@ impl Legacy {
     ///
     /// The first fault: 102 if there would be more than `limit` nodes, then 104 at the first parent that isn't such a node. 190 if memory
     /// is refused. After a fault nothing has changed.
-    pub fn grow(&mut self, alloc: Global, parents: &[i64], limit: u16) -> Result<u16, GrowthFault>
+    pub fn grow(&mut self, alloc: Global, parents: &[i64], limit: u32) -> Result<u32, GrowthFault>
         ensures grown { IfOk result (λ first. IsGrown self.old parents.now first self.new) }
         ensures few { OnOk result (length self.new.parents ≤ limit) }
         ensures fault { IfErr result (λ e. IsGrowthFault limit (length self.old.parents) parents.now e) }

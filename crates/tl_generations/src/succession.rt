@@ -73,7 +73,7 @@ impl Succession {
 
     /// Whether nodes of these parents can be appended to the tree that the next table has to begin with, which has at most `limit` nodes
     /// then. The faults are those of `grow`, but 190.
-    pub fn check_growth(&self, parents: &[i64], limit: u16) -> Result<(), GrowthFault>
+    pub fn check_growth(&self, parents: &[i64], limit: u32) -> Result<(), GrowthFault>
         ensures ok { OnOk result (CanGrow self.now.last.parents parents.now (map unsigned_abs parents.now)) }
         ensures few { OnOk result (length self.now.last.parents + length parents.now ≤ limit) }
         ensures fault { IfErr result (λ e. IsGrowthFault limit (length self.now.last.parents) parents.now e) }
@@ -84,7 +84,7 @@ impl Succession {
 
     /// Appends nodes of these parents to the tree that the next table has to begin with, with zeros as their records. The number of
     /// the first new node. There are at most `limit` nodes then. The faults are those of `Legacy::grow`, after which nothing has changed.
-    pub fn grow(&mut self, alloc: Global, parents: &[i64], limit: u16) -> Result<u16, GrowthFault>
+    pub fn grow(&mut self, alloc: Global, parents: &[i64], limit: u32) -> Result<u32, GrowthFault>
         ensures grown { IfOk result (λ first. IsGrown self.old.last parents.now first self.new.last) }
         ensures few { OnOk result (length self.new.last.parents ≤ limit) }
         ensures fault { IfErr result (λ e. IsGrowthFault limit (length self.old.last.parents) parents.now e) }

@@ -151,7 +151,7 @@ impl History {
 
     /// The record that the node was last left with, from its latest `Free`; `None` if no event frees the node. Searches the
     /// events from the latest back.
-    pub fn last_left(&self, node: u16) -> Option<Record>
+    pub fn last_left(&self, node: u32) -> Option<Record>
         // `opening` stands for the node's opening record.
         ensures { (opening : RecordValue) → unwrap_or result opening ≡ last_left self.now.past node opening }
     {

@@ -142,7 +142,7 @@ pub fn node_to_value(
     alloc: Global,
     letter: Letter,
     call: u32,
-    node: u16,
+    node: u32,
     fields: &Record,
 ) -> Result<Value, AllocError>
     ensures value { IfOk result (λ v. view v ≡ lettered letter (natural call ∷ natural node ∷ integers_data fields.now ∷ [])) }
@@ -175,7 +175,7 @@ fn push_node(
     text: &mut String,
     letter: Letter,
     call: u32,
-    node: u16,
+    node: u32,
     fields: &Record,
 ) -> Result<(), AllocError>
     ensures text { OnOk result (string_bytes text.new ≡ string_bytes text.old

@@ -212,7 +212,7 @@ impl Turn {
 
     /// The same for a caller that knows the node already, from `advance` or `want`.
     #[inline(always)]
-    pub fn lock_node(&mut self, node: u16, found: Record)
+    pub fn lock_node(&mut self, node: u32, found: Record)
         requires { Stops self.old (stop.Lock node) }
         ensures same { self.new ≡ with_call self.old self.new.call }
         ensures locks { Locks self.old.code.instrs self.old.parents self.old.call node found self.new.call }

@@ -10,9 +10,9 @@ use tl_tree_locking::Action;
 #[derive(Clone, Copy, Debug, PartialEq, Eq)]
 pub enum Stop {
     /// The next instruction locks the node.
-    Lock(u16),
+    Lock(u32),
     /// The next instruction frees the node.
-    Free(u16),
+    Free(u32),
     /// The next instruction is the return.
     Return,
     /// There is no next instruction: the call is done.
@@ -25,7 +25,7 @@ pub(crate) enum Pending {
     /// At this stop, on each shape.
     Known(Stop),
     /// At the lock of the child with that number.
-    Child { parent: u16, number: u16 },
+    Child { parent: u32, number: u32 },
 }
 
 impl Pending {

@@ -31,7 +31,7 @@ pub struct CheckedOrder {
     admitted: usize,
     // Whether each call is done, and how many nodes it holds.
     done: Vec<bool>,
-    holding: Vec<u16>,
+    holding: Vec<u32>,
 }
 
 impl CheckedOrder {
@@ -69,7 +69,7 @@ impl CheckedOrder {
     // Whether the call is open and the protocol permits it to lock the node. A call that holds the node's parent is open,
     // so openness is checked at a first lock only.
     #[inline(always)]
-    fn may_lock(&self, shape: &Shape, call: u32, node: u16) -> bool
+    fn may_lock(&self, shape: &Shape, call: u32, node: u32) -> bool
         requires tree { IsTree shape.now }
         requires even { IsEven self.now (length shape.now) }
         requires call { call < calls_of self.now }
@@ -88,7 +88,7 @@ impl CheckedOrder {
 
     // Whether no other call holds the node.
     #[inline(always)]
-    fn is_free_for(&self, call: u32, node: u16) -> bool
+    fn is_free_for(&self, call: u32, node: u32) -> bool
         requires { node < length self.now.kept.holders }
         ensures { (parents : List ℕ) (past : List EventValue) (found : RecordValue) → IsChecked parents self.now past
             → IsTrue result ↔ IsApart past (event.Lock node call found) }
@@ -101,7 +101,7 @@ impl CheckedOrder {
 
     // Whether the call is open and the protocol permits it to free the node: whether it holds the node.
     #[inline(always)]
-    fn may_free(&self, call: u32, node: u16) -> bool
+    fn may_free(&self, call: u32, node: u32) -> bool
         requires { node < length self.now.kept.holders }
         ensures { (parents : List ℕ) (past : List EventValue) (left : RecordValue) → IsChecked parents self.now past
             → IsTrue result ↔ KeepsRules parents past (event.Free node call left) }
@@ -202,7 +202,7 @@ impl CheckedOrder {
 
     // The call locks the node.
     #[inline(always)]
-    fn note_lock(&mut self, shape: &Shape, call: u32, node: u16)
+    fn note_lock(&mut self, shape: &Shape, call: u32, node: u32)
         requires tree { IsTree shape.now }
         requires next { (found : RecordValue) × IsNext shape.now self.old (event.Lock node call found) }
         ensures calls { calls_of self.new ≡ calls_of self.old }
@@ -216,7 +216,7 @@ impl CheckedOrder {
 
     // The call frees the node.
     #[inline(always)]
-    fn note_free(&mut self, shape: &Shape, call: u32, node: u16)
+    fn note_free(&mut self, shape: &Shape, call: u32, node: u32)
         requires tree { IsTree shape.now }
         requires next { (left : RecordValue) × IsNext shape.now self.old (event.Free node call left) }
         ensures calls { calls_of self.new ≡ calls_of self.old }
@@ -284,7 +284,7 @@ impl CheckedOrder {
 
     // `take` of a lock.
     #[inline(always)]
-    fn take_lock(&mut self, shape: &Shape, call: u32, node: u16) -> bool
+    fn take_lock(&mut self, shape: &Shape, call: u32, node: u32) -> bool
         requires tree { IsTree shape.now }
         requires events { IsOfEvents shape.now self.old }
         ensures legal { (past : List EventValue) (found : RecordValue) → IsChecked shape.now self.old past
@@ -306,7 +306,7 @@ impl CheckedOrder {
 
     // `take` of a free.
     #[inline(always)]
-    fn take_free(&mut self, shape: &Shape, call: u32, node: u16) -> bool
+    fn take_free(&mut self, shape: &Shape, call: u32, node: u32) -> bool
         requires tree { IsTree shape.now }
         requires events { IsOfEvents shape.now self.old }
         ensures legal { (past : List EventValue) (left : RecordValue) → IsChecked shape.now self.old past

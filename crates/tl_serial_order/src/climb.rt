@@ -20,7 +20,7 @@ pub fn nearest_coming(
     holders: &Column,
     held_count: usize,
     under: &Column,
-    node: u16,
+    node: u32,
 ) -> Option<u32>
     requires tree { IsTree shape.now }
     requires holders { length holders.now ≡ length shape.now }

@@ -36,12 +36,12 @@ impl Column {
 
     /// The node's call. A proof learns here that every column has few enough entries to be counted.
     #[inline(always)]
-    pub fn at(&self, node: u16) -> Option<u32>
+    pub fn at(&self, node: u32) -> Option<u32>
         requires { node < length self.now }
         ensures call { result ≡ slice_index_or self.now node None }
         ensures few { length self.now < 2 ^ 63 }
     {
-        match self.entries[usize::from(node)] {
+        match self.entries[node as usize] {
             NO_CALL => None,
             call => Some(call),
         }
@@ -49,20 +49,20 @@ impl Column {
 
     /// The node has this call from now on.
     #[inline(always)]
-    pub fn put(&mut self, node: u16, call: u32)
+    pub fn put(&mut self, node: u32, call: u32)
         requires node { node < length self.old }
         requires call { call < NO_CALL }
         ensures { self.new ≡ set self.old node (Some call) }
     {
-        self.entries[usize::from(node)] = call;
+        self.entries[node as usize] = call;
     }
 
     /// The node has no call from now on.
     #[inline(always)]
-    pub fn clear(&mut self, node: u16)
+    pub fn clear(&mut self, node: u32)
         requires { node < length self.old }
         ensures { self.new ≡ set self.old node None }
     {
-        self.entries[usize::from(node)] = NO_CALL;
+        self.entries[node as usize] = NO_CALL;
     }
 }

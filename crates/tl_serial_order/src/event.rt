@@ -19,7 +19,7 @@ pub(crate) fn caller(event: &Event) -> u32
 }
 
 /// Whether the node of the event, if it has one, is among the first `nodes` nodes.
-pub(crate) fn is_of_nodes(event: &Event, nodes: u16) -> bool
+pub(crate) fn is_of_nodes(event: &Event, nodes: u32) -> bool
     ensures { IsTrue result ↔ IsOfNodes nodes event.now }
 {
     match *event {

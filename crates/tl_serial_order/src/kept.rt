@@ -89,7 +89,7 @@ impl KeptOrder {
         ensures size { IfOk result (λ k. IsOfSize k (length shape.now)) }
         ensures kept { IfOk result (λ k. IsKept k shape.now (past_of events.now)) }
     {
-        let mut kept = KeptOrder::new(alloc, usize::from(shape.node_count()), calls)?;
+        let mut kept = KeptOrder::new(alloc, shape.node_count() as usize, calls)?;
         for event in events {
             kept.note(shape, event);
         }
@@ -119,7 +119,7 @@ impl KeptOrder {
     }
 
     /// The call that holds the node.
-    pub fn holder(&self, node: u16) -> Option<u32>
+    pub fn holder(&self, node: u32) -> Option<u32>
         requires { node < length self.now.holders }
         ensures { result ≡ slice_index_or self.now.holders node None }
     {
@@ -127,7 +127,7 @@ impl KeptOrder {
     }
 
     /// The call that was the last to lock the node while it held the node's parent.
-    pub fn under(&self, node: u16) -> Option<u32>
+    pub fn under(&self, node: u32) -> Option<u32>
         requires { node < length self.now.under }
         ensures { result ≡ slice_index_or self.now.under node None }
     {
@@ -155,7 +155,7 @@ impl KeptOrder {
 
     /// A call locks the node.
     #[inline(always)]
-    pub fn lock(&mut self, shape: &Shape, call: u32, node: u16)
+    pub fn lock(&mut self, shape: &Shape, call: u32, node: u32)
         requires tree { IsTree shape.now }
         requires size { IsOfSize self.old (length shape.now) }
         requires call { call < self.old.calls }
@@ -175,7 +175,7 @@ impl KeptOrder {
 
     // A call that stands in the order locks one more node.
     #[inline(always)]
-    fn lock_again(&mut self, call: u32, node: u16)
+    fn lock_again(&mut self, call: u32, node: u32)
         requires call { call < self.old.calls }
         requires holders { node < length self.old.holders }
         requires under { node < length self.old.under }
@@ -192,7 +192,7 @@ impl KeptOrder {
 
     // The call holds the node from now on.
     #[inline(always)]
-    fn hold(&mut self, node: u16, call: u32)
+    fn hold(&mut self, node: u32, call: u32)
         requires node { node < length self.old.holders }
         requires call { call < self.old.calls }
         ensures { self.new ≡ record self.old { holders = set self.old.holders node (Some call) } }
@@ -204,7 +204,7 @@ impl KeptOrder {
     }
 
     // A call that doesn't stand in the order locks its first node.
-    fn lock_first(&mut self, shape: &Shape, call: u32, node: u16)
+    fn lock_first(&mut self, shape: &Shape, call: u32, node: u32)
         requires tree { IsTree shape.now }
         requires size { IsOfSize self.old (length shape.now) }
         requires call { call < self.old.calls }
@@ -223,7 +223,7 @@ impl KeptOrder {
 
     // Where a call is put in if its first lock is of this node: before the first call that may still come to the node, or
     // at the end.
-    fn place_at(&self, shape: &Shape, node: u16) -> usize
+    fn place_at(&self, shape: &Shape, node: u32) -> usize
         requires tree { IsTree shape.now }
         requires size { IsOfSize self.now (length shape.now) }
         requires node { node < length shape.now }
@@ -240,7 +240,7 @@ impl KeptOrder {
 
     /// A call frees the node.
     #[inline(always)]
-    pub fn free(&mut self, node: u16)
+    pub fn free(&mut self, node: u32)
         requires { node < length self.old.holders }
         ensures calls { self.new.calls ≡ self.old.calls }
         ensures size { (nodes : ℕ) → IsOfSize self.old nodes → IsOfSize self.new nodes }

@@ -70,13 +70,13 @@ impl Part {
     }
 
     /// The call locks the node.
-    pub fn lock(&mut self, node: u16)
+    pub fn lock(&mut self, node: u32)
         requires { node < node_count self.old }
         ensures nodes { node_count self.new ≡ node_count self.old }
         ensures lock { (done : List Action) (found : RecordValue) → IsPart self.old done
             → IsPart self.new (Action.Lock node found ∷ done) }
     {
-        let index = usize::from(node);
+        let index = node as usize;
         if !self.marks[index].is_held() {
             self.marks[index] = Mark::Held;
             self.held_count += 1;
@@ -84,13 +84,13 @@ impl Part {
     }
 
     /// The call frees the node.
-    pub fn free(&mut self, node: u16)
+    pub fn free(&mut self, node: u32)
         requires { node < node_count self.old }
         ensures nodes { node_count self.new ≡ node_count self.old }
         ensures free { (done : List Action) (left : RecordValue) → IsPart self.old done
             → IsPart self.new (Action.Free node left ∷ done) }
     {
-        let index = usize::from(node);
+        let index = node as usize;
         if self.marks[index].is_held() {
             self.marks[index] = Mark::Freed;
             self.held_count -= 1;
@@ -99,20 +99,20 @@ impl Part {
 
     /// Whether the call may still come to the node. A call that holds nothing comes nowhere. Otherwise the first node above
     /// that the call locked decides.
-    pub fn may_come(&self, shape: &Shape, node: u16) -> bool
+    pub fn may_come(&self, shape: &Shape, node: u32) -> bool
         requires tree { IsTree shape.now }
         requires nodes { node_count self.now ≡ length shape.now }
         requires node { node < length shape.now }
         ensures { (done : List Action) → IsPart self.now done → result ≡ may_come shape.now done node }
     {
-        if self.held_count == 0 || self.marks[usize::from(node)].was_locked() {
+        if self.held_count == 0 || self.marks[node as usize].was_locked() {
             return false;
         }
         let mut step = node;
         while step > 0 {
             step = shape.parent(step);
-            if self.marks[usize::from(step)].was_locked() {
-                return self.marks[usize::from(step)].is_held();
+            if self.marks[step as usize].was_locked() {
+                return self.marks[step as usize].is_held();
             }
         }
         false

@@ -75,7 +75,7 @@ impl Parts {
     }
 
     // The call locks the node.
-    fn lock(&mut self, call: u32, node: u16)
+    fn lock(&mut self, call: u32, node: u32)
         requires call { call < length self.old }
         requires node { node < node_count (marks_of self.old call) }
         ensures others { self.new ≡ set self.old call (marks_of self.new call) }
@@ -87,7 +87,7 @@ impl Parts {
     }
 
     // The call frees the node.
-    fn free(&mut self, call: u32, node: u16)
+    fn free(&mut self, call: u32, node: u32)
         requires call { call < length self.old }
         requires node { node < node_count (marks_of self.old call) }
         ensures others { self.new ≡ set self.old call (marks_of self.new call) }
@@ -99,7 +99,7 @@ impl Parts {
     }
 
     /// Whether the call may still come to the node.
-    pub fn may_come(&self, call: u32, shape: &Shape, node: u16) -> bool
+    pub fn may_come(&self, call: u32, shape: &Shape, node: u32) -> bool
         requires call { call < length self.now }
         requires tree { IsTree shape.now }
         requires nodes { AreOfNodes (length shape.now) self.now }

@@ -51,7 +51,7 @@ fn kept_order(alloc: Global, history: &History, shape: &Shape) -> Result<Option<
     ensures some { IfOk result (λ o. IsLegalHistory shape.now history.now.past
         → admits history.now.past ≤ MAX_CALLS → IsSome o) }
 {
-    let nodes = usize::from(shape.node_count());
+    let nodes = shape.node_count() as usize;
     let calls = history.len().min(MAX_CALLS) as u32;
     let mut order = CheckedOrder::new(alloc, nodes, calls)?;
     for event in history.events() {
@@ -87,7 +87,7 @@ fn place_all(
     requires inside { All (IsOfNodes (length shape.now)) events.now }
     ensures { OnOk result (line.new.order ≡ placed shape.now (past_of events.now)) }
 {
-    let nodes = usize::from(shape.node_count());
+    let nodes = shape.node_count() as usize;
     for event in events {
         make_room(alloc, line, parts, nodes, caller(event))?;
         place(line, parts, shape, event)?;
@@ -156,7 +156,7 @@ fn place(line: &mut Line, parts: &Parts, shape: &Shape, event: &Event) -> Result
 }
 
 // The place of the first call in order that may still come to the node, or the end.
-fn first_coming(order: &[u32], parts: &Parts, shape: &Shape, node: u16) -> usize
+fn first_coming(order: &[u32], parts: &Parts, shape: &Shape, node: u32) -> usize
     requires calls { All (λ c. c < length parts.now) order.now }
     requires tree { IsTree shape.now }
     requires nodes { AreOfNodes (length shape.now) parts.now }

@@ -189,7 +189,7 @@ impl Part for Result<u32, Refusal> {
     }
 }
 
-impl Part for Result<u16, GrowthFault> {
+impl Part for Result<u32, GrowthFault> {
     ghost use Rattle.tl_server.specs.Answers.{growth_text};
 
     ghost text = { λ _ answer. growth_text answer };

@@ -29,7 +29,7 @@ pub trait Keeper {
         ensures seals { IfSome result (λ e. e.seals ≡ true) };
 
     /// How many nodes the tree has on which it opened an engine last, or from which the first engine began.
-    fn nodes(&self) -> u16;
+    fn nodes(&self) -> u32;
 
     /// Whether nodes of these parents can be appended to the tree of the engine that is at work. The first fault: 102, then 104.
     fn check_growth(&self, parents: &[i64]) -> Result<(), GrowthFault>
@@ -37,7 +37,7 @@ pub trait Keeper {
 
     /// Appends nodes of these parents to the tree that the engine that was closed last left, with zeros as their records. The number of
     /// the first. No line is answered meanwhile. 190 if memory is refused, or if the engine didn't close.
-    fn grow(&mut self, alloc: Global, parents: &[i64]) -> Result<u16, GrowthFault>
+    fn grow(&mut self, alloc: Global, parents: &[i64]) -> Result<u32, GrowthFault>
         ensures { GrowthOutcome parents.now result };
 
     /// Puts the code of each of the others in the place of the procedure with its name, among those that the engine that was closed last left.

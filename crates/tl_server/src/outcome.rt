@@ -34,7 +34,7 @@ pub enum RequestOutcome {
     /// Of many calls.
     Batched(Result<Vec<Result<Receipt, Refusal>>, Refusal>),
     /// Of a growth: the number of the first new node.
-    Grown(Result<u16, GrowthFault>),
+    Grown(Result<u32, GrowthFault>),
     /// Of a request that the service doesn't know.
     Unknown,
     /// Of a seal.

@@ -231,7 +231,7 @@ impl<K: Keeper + Texts, J: Journal> Relay<K, J> {
         rt: &impl Wait,
         alloc: Global,
         parents: &[i64],
-    ) -> Option<Result<u16, GrowthFault>>
+    ) -> Option<Result<u32, GrowthFault>>
         ensures { IfSome result (λ r. GrowthOutcome parents.now r × (r ≢ Err growth.Memory)) }
     {
         let mut stage = self.stage.write(rt);
@@ -314,7 +314,7 @@ impl<K: Keeper + Texts, J: Journal> Relay<K, J> {
 }
 
 // What came of a growth, unless memory was refused.
-fn known(grown: Result<u16, GrowthFault>) -> Option<Result<u16, GrowthFault>>
+fn known(grown: Result<u32, GrowthFault>) -> Option<Result<u32, GrowthFault>>
     ensures { IfSome result (λ r. (r ≡ grown) × (r ≢ Err growth.Memory)) }
 {
     match grown {

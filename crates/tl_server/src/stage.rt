@@ -107,7 +107,7 @@ pub(crate) struct Stage {
     // How many engines were closed before it.
     pub(crate) generation: u64,
     // How many nodes its tree has.
-    pub(crate) nodes: u16,
+    pub(crate) nodes: u32,
     ghost seals: { IfSome engine (λ e. e.seals ≡ true) } by { Prim.hlevel props },
 }
 

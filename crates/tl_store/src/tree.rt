@@ -64,7 +64,7 @@ fn records_of(alloc: Global, rows: &[RecordRow]) -> Result<Vec<Record>, AllocErr
     Ok(records)
 }
 
-/// The tree of these nodes with these records. 1003 and the table of the nodes if they make no tree of 1 to 65,535 nodes, and that of the records
+/// The tree of these nodes with these records. 1003 and the table of the nodes if they make no tree of 1 to 4,294,967,295 nodes, and that of the records
 /// if there aren't as many.
 pub fn tree_of(alloc: Global, nodes: &[NodeRow], records: &[RecordRow]) -> Result<Tree, StoreFault>
     ensures parents { IfOk result (λ t. map pos t.parents ≡ map parent_in nodes.now) }
@@ -73,7 +73,7 @@ pub fn tree_of(alloc: Global, nodes: &[NodeRow], records: &[RecordRow]) -> Resul
         → MatchResult result (λ t. t.parents ≡ parents) (λ e. e ≡ Memory) }
 {
     let parents = parents_of(alloc, nodes)?;
-    let shape = match Shape::new(alloc, &parents, u16::MAX) {
+    let shape = match Shape::new(alloc, &parents, u32::MAX) {
         Ok(shape) => Arc::new(alloc, shape)?,
         Err(TreeFault::Memory) => return Err(StoreFault::Memory),
         Err(_) => return Err(StoreFault::BadRow { table: NODE }),

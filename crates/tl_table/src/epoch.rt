@@ -342,7 +342,7 @@ impl Epoch {
     }
 
     /// Whether a call holds the node. Takes no memory.
-    pub fn is_held(&self, node: u16) -> bool
+    pub fn is_held(&self, node: u32) -> bool
         ensures { node < length (seen self.now).parents → IsTrue result ↔ (holder_of (seen self.now).past node ≢ None) }
     {
         node < self.running.core().opening().shape().node_count()

@@ -236,7 +236,7 @@ impl Table {
     }
 
     /// Whether a call holds the node. Takes no memory.
-    pub fn is_held(&self, node: u16) -> bool
+    pub fn is_held(&self, node: u32) -> bool
         ensures { node < length (seen self.now.current).parents → IsTrue result ↔ (holder_of (seen self.now.current).past node ≢ None) }
     {
         self.current.is_held(node)

@@ -26,12 +26,12 @@ enum Ask {
     Enabled(u32),
     SomeEnabled,
     /// The record and the holder of a node.
-    Node(u16),
+    Node(u32),
 }
 
 /// How many nodes are held.
-fn held(core: &Core) -> u16 {
-    let mut count: u16 = 0;
+fn held(core: &Core) -> u32 {
+    let mut count: u32 = 0;
     for node in 0..core.opening().shape().node_count() {
         if core.holder(node).is_some() {
             count = count.saturating_add(1);
@@ -80,7 +80,7 @@ fn is_at(core: &Core, call: u32, other: u32) -> Result<bool, CoreFault> {
     core.is_at(call, segment.from())
 }
 
-fn node(alloc: Global, core: &Core, node: u16) -> Result<String, Fail> {
+fn node(alloc: Global, core: &Core, node: u32) -> Result<String, Fail> {
     if node >= core.opening().shape().node_count() {
         return Err("no such node".into());
     }

@@ -14,7 +14,7 @@ use tl_tree::{FIELD_COUNT, MAX_NODES, USUAL_NODES};
 const LIMITS: [(&str, usize, usize); 18] = [
     ("trails of a chain", MAX_TRAILS, 256),
     ("nodes of a tree", USUAL_NODES as usize, 4_096),
-    ("nodes of a tree with --nodes", MAX_NODES, 65_535),
+    ("nodes of a shape", MAX_NODES, 4_294_967_295),
     ("fields of a record", FIELD_COUNT, 8),
     ("instructions of a code", MAX_COUNT, 1_024),
     ("arguments of a call", MAX_ARGS, 8),

@@ -21,7 +21,7 @@ const FORK: [i64; 3] = [0, 0, 0];
 const CHAIN: [i64; 3] = [0, 0, 1];
 
 /// An event: its letter, call and node.
-type Row = (char, u32, u16);
+type Row = (char, u32, u32);
 
 fn event_of((letter, call, node): Row) -> Event {
     match letter {
@@ -202,7 +202,7 @@ fn keep(rt: &(impl Abort + AllocGlobal), shape: &Shape) -> Result<(), Fail> {
     if shape.node_count() < 2 {
         return Err("too few nodes".into());
     }
-    let mut kept = KeptOrder::new(rt.alloc(), usize::from(shape.node_count()), 2)?;
+    let mut kept = KeptOrder::new(rt.alloc(), shape.node_count() as usize, 2)?;
     kept.lock(shape, 1, 0);
     kept.lock(shape, 1, 1);
     let found = [kept.holder(0), kept.under(0), kept.under(1)];

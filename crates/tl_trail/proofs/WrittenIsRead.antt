@@ -120,7 +120,7 @@ each_read f g h P back (x ∷ xs) all =
     let rest = each_read f g h P back xs (λ k d less. all (suc k) d (omega arith)) in
     rw (first, rest) refl
 
-natural_read : (n : ℕ) → n < 65536 → integer_of (natural n) ≡ Some (pos n)
+natural_read : (n : ℕ) → n < 2 ^ 32 → integer_of (natural n) ≡ Some (pos n)
 natural_read n less = let fits : n < 2 ^ 63 = omega arith in integer_back (pos n) (record { sfits = fits })
 
 reply_read : (reply : Option (List ℤ)) → IfSome reply (λ values. All (FitsSigned w64) values) → IfSome reply (λ values. length values ≤ 32) → reply_of (reply_data reply) ≡ Some reply
@@ -280,7 +280,7 @@ module _ (t : TrailValue) (w : IsWritable t) where
 
 -- ---- the text is read back
 
-small_back : (n : ℕ) → n < 65536 → IsReadBack (natural n)
+small_back : (n : ℕ) → n < 2 ^ 32 → IsReadBack (natural n)
 small_back n less = natural_back n (omega arith)
 
 module _ (calls nodes : ℕ) (few : calls ≤ MAX_CALLS) (small : nodes ≤ MAX_NODES) where

@@ -32,7 +32,7 @@ pub const MAX_TRAILS: usize = 256;
 fn next_in_order(
     alloc: Global,
     reader: &mut Reader<'_>,
-    limit: u16,
+    limit: u32,
 ) -> Result<Option<Trail>, TrailFault>
     ensures some { IfOk result (λ found. IfSome found (λ t. BeginsWithTrail limit reader.old t reader.new)) }
     ensures err { IfErr result (λ e. e ≡ TrailFault.Memory) }
@@ -54,7 +54,7 @@ fn next_in_order(
 fn each_in_order(
     alloc: Global,
     reader: &mut Reader<'_>,
-    limit: u16,
+    limit: u32,
 ) -> Result<Option<Vec<Trail>>, TrailFault>
     ensures some { IfOk result (λ found. IfSome found (λ ts. BeginsWithTrails limit reader.old ts.items reader.new)) }
     ensures few { IfOk result (λ found. IfSome found (λ ts. length ts.items ≤ MAX_TRAILS)) }
@@ -74,7 +74,7 @@ fn each_in_order(
 }
 
 // The trails of a text, if each can be read from its tokens.
-fn chain_in_order(alloc: Global, text: &str, limit: u16) -> Result<Option<Vec<Trail>>, TrailFault>
+fn chain_in_order(alloc: Global, text: &str, limit: u32) -> Result<Option<Vec<Trail>>, TrailFault>
     ensures some { IfOk result (λ found. IfSome found (λ ts. IsChainText limit text.now ts.items)) }
     ensures err { IfErr result (λ e. e ≡ TrailFault.Memory) }
 {
@@ -127,7 +127,7 @@ fn faulty(
 }
 
 // The trails up to the end of their list.
-fn each_by_value(alloc: Global, reader: &mut Reader<'_>, limit: u16) -> Result<Listed, AllocError>
+fn each_by_value(alloc: Global, reader: &mut Reader<'_>, limit: u32) -> Result<Listed, AllocError>
     ensures { IfOk result (λ listed. IsListed limit reader.old listed reader.new) }
 {
     let mut trails = Vec::new(alloc);
@@ -150,7 +150,7 @@ fn each_by_value(alloc: Global, reader: &mut Reader<'_>, limit: u16) -> Result<L
 }
 
 // The trails of a text.
-fn chain_by_values(alloc: Global, text: &str, limit: u16) -> Result<Listed, AllocError>
+fn chain_by_values(alloc: Global, text: &str, limit: u32) -> Result<Listed, AllocError>
     ensures { IfOk result (λ listed. IsListedIn limit text.now listed) }
 {
     let mut scratch = Scratch::new(alloc);
@@ -167,7 +167,7 @@ fn chain_by_values(alloc: Global, text: &str, limit: u16) -> Result<Listed, Allo
 
 // ---- from a value of the whole
 
-fn trails_of_items(alloc: Global, items: &[Value], limit: u16) -> Result<Vec<Trail>, TrailFault>
+fn trails_of_items(alloc: Global, items: &[Value], limit: u32) -> Result<Vec<Trail>, TrailFault>
     ensures ok { IfOk result (λ ts. AreEach limit (items_of_list (items_view items.now)) ts.items) }
     ensures fault { IfErr result (λ e. e ≢ TrailFault.Memory → IsFirstOf limit (items_of_list (items_view items.now)) e) }
 {
@@ -181,7 +181,7 @@ fn trails_of_items(alloc: Global, items: &[Value], limit: u16) -> Result<Vec<Tra
     Ok(trails)
 }
 
-fn chain_of_value(alloc: Global, value: &Value, limit: u16) -> Result<Vec<Trail>, TrailFault>
+fn chain_of_value(alloc: Global, value: &Value, limit: u32) -> Result<Vec<Trail>, TrailFault>
     ensures ok { IfOk result (λ ts. IsChain limit (chain_of (view value.now)) ts.items) }
     ensures fault { IfErr result (λ e. e ≢ TrailFault.Memory → IsFaultOfChain limit (chain_of (view value.now)) e) }
 {
@@ -194,7 +194,7 @@ fn chain_of_value(alloc: Global, value: &Value, limit: u16) -> Result<Vec<Trail>
 }
 
 // The same as below, with a contract that uses only the definition of a chain's text.
-fn chain_of_text(alloc: Global, text: &str, limit: u16) -> Result<Vec<Trail>, TrailFault>
+fn chain_of_text(alloc: Global, text: &str, limit: u32) -> Result<Vec<Trail>, TrailFault>
     ensures ok { IfOk result (λ ts. IsChainText limit text.now ts.items) }
     ensures fault { IfErr result (λ e. e ≢ TrailFault.Memory → IsFirstChainFault limit text.now e) }
 {
@@ -216,7 +216,7 @@ fn chain_of_text(alloc: Global, text: &str, limit: u16) -> Result<Vec<Trail>, Tr
 ///
 /// The first fault: 701 if the text isn't such a list; otherwise what `read_trail` says about the first trail with a fault.
 /// The records of one trail may have four fields and those of the next eight. 790 if memory is refused.
-pub fn read_chain(alloc: Global, text: &str, limit: u16) -> Result<Vec<Trail>, TrailFault>
+pub fn read_chain(alloc: Global, text: &str, limit: u32) -> Result<Vec<Trail>, TrailFault>
     // The trails that are read are those of the text.
     ensures ok { IfOk result (λ ts. IsChainText limit text.now ts.items) }
     // Which fault it is.

@@ -32,7 +32,7 @@ fn raw_at(
     alloc: Global,
     width: Width,
     members: &Members,
-    limit: u16,
+    limit: u32,
 ) -> Result<(Tree, RawTrail), TrailFault>
     ensures ok { IfOk result (λ found. IsHalfRead limit (form_at width (parts_in members.now)) found.0 found.1) }
     ensures fault { IfErr result (λ e. e ≢ TrailFault.Memory → IsUnread limit (form_at width (parts_in members.now)) e) }
@@ -48,7 +48,7 @@ fn raw_at(
 fn raw_of_either(
     alloc: Global,
     members: &Members,
-    limit: u16,
+    limit: u32,
 ) -> Result<(Tree, RawTrail), TrailFault>
     ensures ok { IfOk result (λ found. IsHalfRead limit (form_of_parts (parts_in members.now)) found.0 found.1) }
     ensures fault { IfErr result (λ e. e ≢ TrailFault.Memory → IsUnread limit (form_of_parts (parts_in members.now)) e) }
@@ -59,7 +59,7 @@ fn raw_of_either(
     }
 }
 
-fn raw_of_value(alloc: Global, value: &Value, limit: u16) -> Result<(Tree, RawTrail), TrailFault>
+fn raw_of_value(alloc: Global, value: &Value, limit: u32) -> Result<(Tree, RawTrail), TrailFault>
     ensures ok { IfOk result (λ found. IsHalfRead limit (form_of_data (view value.now)) found.0 found.1) }
     ensures fault { IfErr result (λ e. e ≢ TrailFault.Memory → IsUnread limit (form_of_data (view value.now)) e) }
 {
@@ -69,7 +69,7 @@ fn raw_of_value(alloc: Global, value: &Value, limit: u16) -> Result<(Tree, RawTr
     raw_of_either(alloc, &members, limit)
 }
 
-fn raw_of_text(alloc: Global, text: &str, limit: u16) -> Result<(Tree, RawTrail), TrailFault>
+fn raw_of_text(alloc: Global, text: &str, limit: u32) -> Result<(Tree, RawTrail), TrailFault>
     ensures ok { IfOk result (λ found. IsHalfRead limit (form_in text.now) found.0 found.1) }
     ensures fault { IfErr result (λ e. e ≢ TrailFault.Memory → IsUnread limit (form_in text.now) e) }
 {
@@ -153,36 +153,36 @@ fn checked_calls(
 // ---- the events
 
 // The number, if it is below `count`.
-fn below(count: u16, number: i64) -> Option<u16>
+fn below(count: u32, number: i64) -> Option<u32>
     ensures number { result ≡ below count number }
     ensures inside { IfSome result (λ n. n < count) }
 {
-    let number = u16::try_from(number).ok()?;
+    let number = u32::try_from(number).ok()?;
     if number < count { Some(number) } else { None }
 }
 
 // An event of one of the calls and one of the nodes.
-fn checked_event(calls: u16, nodes: u16, form: RawEvent) -> Option<Event>
+fn checked_event(calls: u32, nodes: u32, form: RawEvent) -> Option<Event>
     ensures event { result ≡ event_as calls nodes form }
     ensures node { IfSome result (λ e. IsOfNodes nodes e) }
     ensures call { IfSome result (λ e. caller e < calls) }
 {
     match form {
         RawEvent::Admitted { call } => Some(Event::Admit {
-            call: u32::from(below(calls, call)?),
+            call: below(calls, call)?,
         }),
         RawEvent::Locked { call, node, found } => Some(Event::Lock {
-            call: u32::from(below(calls, call)?),
+            call: below(calls, call)?,
             node: below(nodes, node)?,
             found,
         }),
         RawEvent::Freed { call, node, left } => Some(Event::Free {
-            call: u32::from(below(calls, call)?),
+            call: below(calls, call)?,
             node: below(nodes, node)?,
             left,
         }),
         RawEvent::Ended { call } => Some(Event::Done {
-            call: u32::from(below(calls, call)?),
+            call: below(calls, call)?,
         }),
     }
 }
@@ -204,8 +204,8 @@ fn history_for(alloc: Global, events: usize) -> Result<History, TrailFault>
 // The events, each of one of `calls` calls and one of `nodes` nodes, at most 1,048,576 of them: otherwise 701.
 fn checked_history(
     alloc: Global,
-    calls: u16,
-    nodes: u16,
+    calls: u32,
+    nodes: u32,
     forms: &[RawEvent],
 ) -> Result<History, TrailFault>
     ensures ok { IfOk result (λ h. events_as calls nodes forms.now ≡ Some (reverse h.past)) }
@@ -236,15 +236,15 @@ pub(crate) fn checked_trail(alloc: Global, tree: Tree, raw: RawTrail) -> Result<
     let procedures = register_all(alloc, &raw.procedures)?;
     let calls = checked_calls(alloc, &procedures, &raw.calls)?;
     let nodes = tree.shape().node_count();
-    if raw.ends.len() != usize::from(nodes) {
+    if raw.ends.len() != nodes as usize {
         return Err(TrailFault::NotTrail);
     }
-    let history = checked_history(alloc, calls.len() as u16, nodes, &raw.events)?;
+    let history = checked_history(alloc, calls.len() as u32, nodes, &raw.events)?;
     Ok(Trail::new(tree, procedures, calls, history, raw.ends))
 }
 
 /// The trail that a value stands for.
-pub(crate) fn trail_of_value(alloc: Global, value: &Value, limit: u16) -> Result<Trail, TrailFault>
+pub(crate) fn trail_of_value(alloc: Global, value: &Value, limit: u32) -> Result<Trail, TrailFault>
     ensures ok { IfOk result (λ t. IsFound limit (form_of_data (view value.now)) t) }
     ensures fault { IfErr result (λ e. e ≢ TrailFault.Memory → IsFaultFound limit (form_of_data (view value.now)) e) }
 {
@@ -253,7 +253,7 @@ pub(crate) fn trail_of_value(alloc: Global, value: &Value, limit: u16) -> Result
 }
 
 // The same as below, with a contract that uses only the definition of a trail's text.
-fn trail_of_text(alloc: Global, text: &str, limit: u16) -> Result<Trail, TrailFault>
+fn trail_of_text(alloc: Global, text: &str, limit: u32) -> Result<Trail, TrailFault>
     ensures ok { IfOk result (λ t. IsTrailText limit text.now t) }
     ensures fault { IfErr result (λ e. e ≢ TrailFault.Memory → IsFirstTrailFault limit text.now e) }
 {
@@ -274,7 +274,7 @@ fn trail_of_text(alloc: Global, text: &str, limit: u16) -> Result<Trail, TrailFa
 /// the verifier's 301 to 307 and 401 to 409, and 612, 611, 613 for its name; 603 for more than 4,096 calls; for each call
 /// in order 601 and 501; then 701 if an event is of no call or no node of the trail, if there aren't as many records in the
 /// end as nodes, or if there are more than 1,048,576 events. 790 if memory is refused.
-pub fn read_trail(alloc: Global, text: &str, limit: u16) -> Result<Trail, TrailFault>
+pub fn read_trail(alloc: Global, text: &str, limit: u32) -> Result<Trail, TrailFault>
     // The trail that is read is that of the text.
     ensures ok { IfOk result (λ t. IsTrailText limit text.now t) }
     // Which fault it is.

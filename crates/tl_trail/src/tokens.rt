@@ -150,7 +150,7 @@ fn events_member(
 pub(crate) fn trail_members(
     alloc: Global,
     reader: &mut Reader<'_>,
-    limit: u16,
+    limit: u32,
 ) -> Result<Option<(Tree, RawTrail)>, AllocError>
     ensures { IfOk result (λ found. IfSome found (λ x. AreOfTrail limit reader.old x.0 x.1 reader.new)) }
 {
@@ -192,7 +192,7 @@ pub(crate) fn trail_members(
 pub(crate) fn raw_of_tokens(
     alloc: Global,
     text: &str,
-    limit: u16,
+    limit: u32,
 ) -> Result<Option<(Tree, RawTrail)>, AllocError>
     ensures { IfOk result (λ found. IfSome found (λ x. IsHalfRead limit (form_in text.now) x.0 x.1)) }
 {

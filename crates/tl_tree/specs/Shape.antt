@@ -8,7 +8,7 @@ use Rattle.tl_tree.specs.declared.fault.TreeFault.TheVariants.{Empty, TooMany, B
 abbrev pub parent : List ℕ → ℕ → ℕ
 parent parents x = slice_index parents x
 
--- A tree has 1 to 65,535 nodes. The root is its own parent, and the parent of each other node has a lower number.
+-- A tree has 1 to 4,294,967,295 nodes. The root is its own parent, and the parent of each other node has a lower number.
 pub record IsTree (parents : List ℕ) : Type 0 where
   pub some : 0 < length parents
   pub few : length parents ≤ MAX_NODES

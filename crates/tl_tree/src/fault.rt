@@ -21,7 +21,7 @@ pub enum TreeFault {
     BadRoot,
     /// 104 and the node: the least node from 1 on whose parent isn't a node with a lower number.
     #[error("the parent of node {0} must have a lower number")]
-    BadParent(u16),
+    BadParent(u32),
     /// 105: there are more or fewer records than nodes.
     #[error("there are not as many records as nodes")]
     WrongCount,

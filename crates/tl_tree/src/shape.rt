@@ -8,18 +8,18 @@ use std::alloc::{AllocError, Global};
 use std::marker::Model;
 
 /// The most nodes that a tree may have.
-pub const MAX_NODES: usize = 65_535;
+pub const MAX_NODES: usize = 4_294_967_295;
 
 /// How many nodes a tree has at most where nobody asks for more.
-pub const USUAL_NODES: u16 = 4_096;
+pub const USUAL_NODES: u32 = 4_096;
 
-/// The shape of a tree of 1 to 65,535 nodes, numbered from 0. Node 0 is the root. Each other node has a parent with a lower
+/// The shape of a tree of 1 to 4,294,967,295 nodes, numbered from 0. Node 0 is the root. Each other node has a parent with a lower
 /// number. A contract sees a shape as the list of the nodes' parents, where the root is its own parent.
 #[derive(Debug, Drop)]
 pub struct Shape {
-    parents: Vec<u16>,
+    parents: Vec<u32>,
     // The children of each node, by rising number.
-    kid_lists: Vec<Vec<u16>>,
+    kid_lists: Vec<Vec<u32>>,
 }
 
 impl Model for Shape {
@@ -39,7 +39,7 @@ impl Shape {
     ///
     /// The first fault, in this order: 101 for no nodes, 102 for more than `limit`, 103 if the root's parent isn't 0, and 104
     /// at the first other node whose parent isn't a node before it. 190 if memory is refused.
-    pub fn new(alloc: Global, parents: &[i64], limit: u16) -> Result<Shape, TreeFault>
+    pub fn new(alloc: Global, parents: &[i64], limit: u32) -> Result<Shape, TreeFault>
         ensures ok { IfOk result (λ s. shape_of limit parents.now ≡ Ok s) }
         ensures fault { IfErr result (λ e. e ≢ TreeFault.Memory → shape_of limit parents.now ≡ Err e) }
 
@@ -55,51 +55,51 @@ impl Shape {
         Ok(Shape { parents, kid_lists })
     }
 
-    /// How many nodes there are: 1 to 65,535.
-    pub fn node_count(&self) -> u16
+    /// How many nodes there are: 1 to 4,294,967,295.
+    pub fn node_count(&self) -> u32
         ensures count { result ≡ length self.now }
         ensures tree { IsTree self.now }
     {
-        self.parents.len() as u16
+        self.parents.len() as u32
     }
 
     /// The parent of a node; the root is its own.
-    pub fn parent(&self, node: u16) -> u16
+    pub fn parent(&self, node: u32) -> u32
         requires { node < length self.now }
         ensures parent { result ≡ parent self.now node }
         ensures inside { result < length self.now }
     {
-        self.parents[usize::from(node)]
+        self.parents[node as usize]
     }
 
     /// How many children a node has.
-    pub fn kids(&self, node: u16) -> u16
+    pub fn kids(&self, node: u32) -> u32
         requires { node < length self.now }
         ensures count { result ≡ length (kids self.now node) }
         ensures tree { IsTree self.now }
     {
-        self.kid_lists[usize::from(node)].len() as u16
+        self.kid_lists[node as usize].len() as u32
     }
 
     /// The node's child with that number, counted from 0. Children are numbered by rising node number.
-    pub fn kid(&self, node: u16, number: u16) -> u16
+    pub fn kid(&self, node: u32, number: u32) -> u32
         requires node { node < length self.now }
         requires number { number < length (kids self.now node) }
         ensures kid { result ≡ slice_index (kids self.now node) number }
         ensures child { IsKid self.now node result }
     {
-        self.kid_lists[usize::from(node)][usize::from(number)]
+        self.kid_lists[node as usize][number as usize]
     }
 
     /// Whether zero or more steps from a node to its parent lead from `lower` to `upper`.
-    pub fn is_above(&self, upper: u16, lower: u16) -> bool
+    pub fn is_above(&self, upper: u32, lower: u32) -> bool
         requires upper { upper < length self.now }
         requires lower { lower < length self.now }
         ensures { IsTrue result ↔ Above self.now upper lower }
     {
         let mut step = lower;
         while step > upper {
-            step = self.parents[usize::from(step)];
+            step = self.parents[step as usize];
         }
         step == upper
     }
@@ -113,14 +113,14 @@ impl Shape {
 }
 
 // The parents as node numbers, if they make a tree of at most `limit` nodes.
-fn node_parents(alloc: Global, parents: &[i64], limit: u16) -> Result<Vec<u16>, TreeFault>
+fn node_parents(alloc: Global, parents: &[i64], limit: u32) -> Result<Vec<u32>, TreeFault>
     ensures ok { IfOk result (λ v. shape_of limit parents.now ≡ Ok v.items) }
     ensures fault { IfErr result (λ e. e ≢ TreeFault.Memory → shape_of limit parents.now ≡ Err e) }
 {
     if parents.is_empty() {
         return Err(TreeFault::Empty);
     }
-    if parents.len() > usize::from(limit) {
+    if parents.len() > limit as usize {
         return Err(TreeFault::TooMany);
     }
     if parents[0] != 0 {
@@ -130,7 +130,7 @@ fn node_parents(alloc: Global, parents: &[i64], limit: u16) -> Result<Vec<u16>, 
 }
 
 // The same, once all that is left to check is whether each node but the root has a parent before it.
-fn lower_parents(alloc: Global, parents: &[i64]) -> Result<Vec<u16>, TreeFault>
+fn lower_parents(alloc: Global, parents: &[i64]) -> Result<Vec<u32>, TreeFault>
     requires some { 0 < length parents.now }
     requires few { length parents.now ≤ MAX_NODES }
     requires root { slice_index_or parents.now 0 (pos 0) ≡ pos 0 }
@@ -144,15 +144,15 @@ fn lower_parents(alloc: Global, parents: &[i64]) -> Result<Vec<u16>, TreeFault>
     for node in 1..parents.len() {
         let parent = parents[node];
         if parent < 0 || parent >= node as i64 {
-            return Err(TreeFault::BadParent(node as u16));
+            return Err(TreeFault::BadParent(node as u32));
         }
-        lower.push(parent as u16)?;
+        lower.push(parent as u32)?;
     }
     Ok(lower)
 }
 
 // The children of each node.
-fn kid_lists(alloc: Global, parents: &[u16]) -> Result<Vec<Vec<u16>>, AllocError>
+fn kid_lists(alloc: Global, parents: &[u32]) -> Result<Vec<Vec<u32>>, AllocError>
     requires { IsTree parents.now }
     ensures { IfOk result (λ v. IsIndex parents.now (lists_of v.items)) }
 {
@@ -161,8 +161,8 @@ fn kid_lists(alloc: Global, parents: &[u16]) -> Result<Vec<Vec<u16>>, AllocError
         lists.push(Vec::new(alloc))?;
     }
     for node in 1..parents.len() {
-        let parent = usize::from(parents[node]);
-        lists[parent].push(node as u16)?;
+        let parent = parents[node] as usize;
+        lists[parent].push(node as u32)?;
     }
     Ok(lists)
 }

@@ -13,7 +13,7 @@ use serde_json::Value;
 use std::alloc::Global;
 
 // The tree of at most `limit` nodes that a value stands for, whose records are all wide or all narrow.
-fn tree_of_value(alloc: Global, value: &Value, limit: u16) -> Result<Tree, TreeFault>
+fn tree_of_value(alloc: Global, value: &Value, limit: u32) -> Result<Tree, TreeFault>
     ensures ok { IfOk result (λ t. tree_of limit (view value.now) ≡ Ok t) }
     ensures fault { IfErr result (λ e. e ≢ TreeFault.Memory → tree_of limit (view value.now) ≡ Err e) }
 {
@@ -28,7 +28,7 @@ fn tree_of_value(alloc: Global, value: &Value, limit: u16) -> Result<Tree, TreeF
 /// version, the other fields are 0.
 ///
 /// The first fault: 106 for a text of another form, then 101 to 105 in their order. 190 if memory is refused.
-pub fn read_tree(alloc: Global, text: &str, limit: u16) -> Result<Tree, TreeFault>
+pub fn read_tree(alloc: Global, text: &str, limit: u32) -> Result<Tree, TreeFault>
     ensures ok { IfOk result (λ t. tree_of_text limit text.now ≡ Ok t) }
     ensures fault { IfErr result (λ e. e ≢ TreeFault.Memory → tree_of_text limit text.now ≡ Err e) }
 {

@@ -38,7 +38,7 @@ impl Tree {
             (record { parents = arc_value shape; records = records.items }) }
         ensures err { IfErr result (λ e. e ≡ TreeFault.WrongCount) }
     {
-        if records.len() != usize::from(shape.node_count()) {
+        if records.len() != shape.node_count() as usize {
             return Err(TreeFault::WrongCount);
         }
         Ok(Tree { shape, records })
@@ -60,19 +60,19 @@ impl Tree {
     }
 
     /// A node's record.
-    pub fn record_at(&self, node: u16) -> Record
+    pub fn record_at(&self, node: u32) -> Record
         requires { node < length self.now.records }
         ensures { result ≡ record_of_node self.now.records node }
     {
-        self.records[usize::from(node)]
+        self.records[node as usize]
     }
 
     /// Replaces a node's record.
-    pub fn put_at(&mut self, node: u16, fields: Record)
+    pub fn put_at(&mut self, node: u32, fields: Record)
         requires { node < length self.old.records }
         ensures { self.new ≡ record self.old { records = put_record self.old.records node fields } }
     {
-        self.records[usize::from(node)] = fields;
+        self.records[node as usize] = fields;
     }
 
     /// A separate copy of the tree. 190 if memory is refused.

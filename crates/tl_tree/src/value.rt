@@ -105,7 +105,7 @@ pub fn tree_from_value(
     alloc: Global,
     width: Width,
     value: &Value,
-    limit: u16,
+    limit: u32,
 ) -> Result<Tree, TreeFault>
     ensures ok { IfOk result (λ t. tree_at limit width (view value.now) ≡ Ok t) }
     ensures fault { IfErr result (λ e. e ≢ TreeFault.Memory → tree_at limit width (view value.now) ≡ Err e) }
@@ -119,7 +119,7 @@ pub fn tree_from_value(
 }
 
 // The same, with a contract that uses only the definition.
-fn checked_tree(alloc: Global, width: Width, value: &Value, limit: u16) -> Result<Tree, TreeFault>
+fn checked_tree(alloc: Global, width: Width, value: &Value, limit: u32) -> Result<Tree, TreeFault>
     ensures ok { IfOk result (λ t. tree_at limit width (view value.now) ≡ Ok t) }
     ensures fault { IfErr result (λ e. e ≢ TreeFault.Memory → tree_at limit width (view value.now) ≡ Err e) }
 {
@@ -221,7 +221,7 @@ fn parts_to_value(alloc: Global, parents: Value, records: Value) -> Result<Value
 fn shape_to_value(alloc: Global, shape: &Shape) -> Result<Value, AllocError>
     ensures { IfOk result (λ v. view v ≡ integers_data (map pos shape.now)) }
 {
-    let mut items = Vec::with_capacity(alloc, usize::from(shape.node_count()))?;
+    let mut items = Vec::with_capacity(alloc, shape.node_count() as usize)?;
     for node in 0..shape.node_count() {
         items.push(Value::from(shape.parent(node)))?;
     }

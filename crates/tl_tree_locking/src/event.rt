@@ -9,9 +9,9 @@ pub enum Event {
     /// The call was admitted. Calls are numbered 0, 1, .. in the order of their admissions.
     Admit { call: u32 },
     /// The call locked the node, which had this record.
-    Lock { node: u16, call: u32, found: Record },
+    Lock { node: u32, call: u32, found: Record },
     /// The call freed the node, which has this record from then on.
-    Free { node: u16, call: u32, left: Record },
+    Free { node: u32, call: u32, left: Record },
     /// The call ended.
     Done { call: u32 },
 }

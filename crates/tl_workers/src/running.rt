@@ -165,7 +165,7 @@ impl Engine {
     }
 
     // Waits until nobody holds the node.
-    fn wait_for(&self, rt: &impl Wait, held: MutexGuard<'_, Turnstile>, node: u16) {
+    fn wait_for(&self, rt: &impl Wait, held: MutexGuard<'_, Turnstile>, node: u32) {
         let mut turnstile = held;
         for _ in rt.forever() {
             if !turnstile.table.is_held(node) {

@@ -139,7 +139,7 @@ where
     ) -> Result<String, Failure<'p>>
     where
         K: Keeper + Texts + Finish + Send + Drop,
-        F: FnOnce(Trails, Succession, u16) -> K + Drop,
+        F: FnOnce(Trails, Succession, u32) -> K + Drop,
         requires { F.IsAlwaysCallable archive }
     {
         let file = self.read_file(tree)?;
@@ -185,7 +185,7 @@ where
     ) -> Result<String, Failure<'p>>
     where
         K: Keeper + Texts + Finish + Send + Drop,
-        F: FnOnce(Trails, Succession, u16) -> K + Drop,
+        F: FnOnce(Trails, Succession, u32) -> K + Drop,
         requires { F.IsAlwaysCallable archive }
     {
         let alloc = self.rt.alloc();
@@ -215,7 +215,7 @@ where
     ) -> Result<String, Failure<'p>>
     where
         K: Keeper + Texts + Finish + Send + Drop,
-        F: FnOnce(Trails, Succession, u16) -> K + Drop,
+        F: FnOnce(Trails, Succession, u32) -> K + Drop,
         J: Journal + End + Sync + Drop,
         requires { F.IsAlwaysCallable archive }
     {

@@ -92,7 +92,7 @@ where
     ) -> Result<String, Failure<'p>>
     where
         K: Keeper + Texts + Finish + Send + Drop,
-        F: FnOnce(Trails, Succession, u16) -> K + Drop,
+        F: FnOnce(Trails, Succession, u32) -> K + Drop,
         J: Journal + End + Sync + Drop,
         O: FnOnce(&str, Option<Tree>, Option<&str>) -> Result<Stored<J>, StoreRefusal> + Drop,
         requires archive { F.IsAlwaysCallable archive }

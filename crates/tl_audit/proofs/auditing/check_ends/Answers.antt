@@ -5,15 +5,14 @@ use Rattle.tl_tree_locking.proofs.Records.{length-records_now}
 use Rattle.tl_audit.proofs.EndRecords.{ends_so, ends_other, ends_more}
 use Rattle.tl_audit.proofs.auditing.check_ends.Goals as goal
 
-pub bounds-records-from : goal.bounds-records-from
-bounds-records-from c =
+pub bounds-records-node : goal.bounds-records-node
+bounds-records-node c =
     let t = c.args.trail.now in
     let trail = c.opening.ensures.trail in
     let size = trail.size in
     let now_size = ap length c.requires.records ∙ length-records_now t.past t.opening in
     let nodes = c.node_count-node-end.ensures.count ∙ ap length (c.deref.ensures ∙ c.shape.ensures.shape ∙ ap (λ u. u.parents) c.opening.ensures.tree) in
     let inside = c.loop-node-test.true in
-    let from = c.from-in-loop-node.ensures in
     omega arith
 
 pub returns-then-ne-clause-fault : goal.returns-then-ne-clause-fault

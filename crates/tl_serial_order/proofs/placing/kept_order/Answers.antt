@@ -16,11 +16,11 @@ use Rattle.tl_serial_order.proofs.placing.kept_order.Goals as goal
 pub loop-event-init : goal.loop-event-init
 loop-event-init c = (
   c.in_ok-order.ensures.calls,
-  c.in_ok-order.ensures.checked c.args.shape.now (sym (c.from-nodes.ensures ∙ c.node_count.ensures.count)),
+  c.in_ok-order.ensures.checked c.args.shape.now (sym c.node_count-nodes.ensures.count),
 )
 
 pub take-requires-clause-tree : goal.take-requires-clause-tree
-take-requires-clause-tree c = c.node_count.ensures.tree
+take-requires-clause-tree c = c.node_count-nodes.ensures.tree
 
 pub take-requires-clause-events : goal.take-requires-clause-events
 take-requires-clause-events c = record { past = reverse (take c.loop-event.event-index c.events-event-items.result.now); checked = c.loop-event.invariant.1 }
@@ -48,7 +48,7 @@ returns-then-not-take-clause-some c legal few =
     let one_more : reverse (take (i + 1) events) ≡ e ∷ past = past_one_more events i (Admit 0) inside in
     let here : IsLegalHistory shape (e ∷ past) = subst (IsLegalHistory shape) one_more next.0 in
     let fewer : admits (e ∷ past) ≤ admits (reverse events) = subst (λ p. admits p ≤ admits (reverse events)) one_more next.1 in
-    let known = caller_known shape c.node_count.ensures.tree e past here in
+    let known = caller_known shape c.node_count-nodes.ensures.tree e past here in
     let most : admits c.args.history.now.past ≤ length c.args.history.now.past = admits_few c.args.history.now.past in
     let same : admits (reverse events) ≡ admits c.args.history.now.past = ap admits whole in
     let room : calls_of c.loop-event.order ≡ min (length c.args.history.now.past) MAX_CALLS = search rules in

@@ -14,9 +14,8 @@ loop-event-preserved c =
     let past = reverse (take i events) in
     let now = c.loop-event.invariant in
     let one_more : event ∷ past ≡ reverse (take (i + 1) events) = sym (past_one_more events i (Admit 0) c.loop-event-test.true) in
-    let nodes : c.from-nodes.result ≡ length shape = c.from-nodes.ensures ∙ c.node_count.ensures.count in
     let known : AreOfNodes (length shape) c.make_room.new.parts =
-    subst (λ n. AreOfNodes n c.loop-event.parts → AreOfNodes n c.make_room.new.parts) nodes c.in_ok-make_room.ensures.nodes now.1 in
+    subst (λ n. AreOfNodes n c.loop-event.parts → AreOfNodes n c.make_room.new.parts) c.node_count-nodes.ensures.count c.in_ok-make_room.ensures.nodes now.1 in
     let shown : ShowAll c.make_room.new.parts past = c.in_ok-make_room.ensures.more past now.2 in
     let order : c.place.new.line.order ≡ placed shape (event ∷ past) =
     c.in_ok-place.ensures.ok past shown.shows ∙ ap (placed_after shape past event) (c.in_ok-make_room.ensures.order ∙ now.3) in (

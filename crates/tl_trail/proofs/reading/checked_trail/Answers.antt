@@ -36,16 +36,15 @@ returns-in_err-calls-clause-fault c =
     let p = err_from_is_err_and c.from_residual-in_err-calls.result c.from_residual-in_err-calls.ensures.1 in
     rw (p.1, p.2) wrong
 
-pub returns-then-len-from-clause-fault : goal.returns-then-len-from-clause-fault
-returns-then-len-from-clause-fault c =
+pub returns-then-len-nodes-clause-fault : goal.returns-then-len-nodes-clause-fault
+returns-then-len-nodes-clause-fault c =
     let raw = c.args.raw in
     let procedures = c.in_ok-procedures.procedures in
     let taken = subst (λ vs. TakenUp [] (map procedure_form vs) procedures) c.deref.ensures.value c.in_ok-procedures.ensures.ok in
     let calls_are = ap (λ vs. calls_as procedures (map call_form vs)) (sym c.deref-2.ensures.value) ∙ c.in_ok-calls.ensures.ok in
     let nodes : c.node_count-nodes.result ≡ length c.args.tree.parents = c.node_count-nodes.ensures.count ∙ ap length (c.deref-3.ensures ∙ c.shape.ensures.shape) in
     let size : c.len.result ≡ length raw.ends.items = search rules in
-    let same : c.from.result ≡ c.node_count-nodes.result = search rules in
-    λ ne. ends_fault c.args.tree raw procedures taken (map call_value c.in_ok-calls.calls.items) calls_are (λ is. c.if-len-from.true (size ∙ is ∙ sym nodes ∙ sym same))
+    λ ne. ends_fault c.args.tree raw procedures taken (map call_value c.in_ok-calls.calls.items) calls_are (λ is. c.if-len-nodes.true (size ∙ is ∙ sym nodes))
 
 pub returns-in_err-history-clause-fault : goal.returns-in_err-history-clause-fault
 returns-in_err-history-clause-fault c =
@@ -57,10 +56,9 @@ returns-in_err-history-clause-fault c =
     let calls_are = ap (λ vs. calls_as procedures (map call_form vs)) (sym c.deref-2.ensures.value) ∙ c.in_ok-calls.ensures.ok in
     let nodes : c.node_count-nodes.result ≡ length c.args.tree.parents = c.node_count-nodes.ensures.count ∙ ap length (c.deref-3.ensures ∙ c.shape.ensures.shape) in
     let size : c.len.result ≡ length raw.ends.items = search rules in
-    let same : c.from.result ≡ c.node_count-nodes.result = search rules in
     let many : c.len-2.result ≡ length c.in_ok-calls.calls.items = search rules in
     let wrong : e ≢ Memory → (parts : List ℤ × Records) → IsFaultOf c.args.tree (form_with raw parts) e =
-    λ ne. events_fault c.args.tree raw procedures taken calls calls_are (sym size ∙ c.if-len-from.false ∙ same ∙ nodes) c.len-2.result c.node_count-nodes.result c.deref-4.result.now
+    λ ne. events_fault c.args.tree raw procedures taken calls calls_are (sym size ∙ c.if-len-nodes.false ∙ nodes) c.len-2.result c.node_count-nodes.result c.deref-4.result.now
     (many ∙ sym (length-map c.in_ok-calls.calls.items call_value)) nodes c.deref-4.ensures.value e (c.in_err-history.ensures.fault ne) in
     let p = err_from_is_err_and c.from_residual-in_err-history.result c.from_residual-in_err-history.ensures.1 in
     rw (p.1, p.2) wrong
@@ -71,7 +69,6 @@ new-requires c =
     let past = c.in_ok-history.history.past in
     let nodes : c.node_count-nodes.result ≡ length c.args.tree.parents = c.node_count-nodes.ensures.count ∙ ap length (c.deref-3.ensures ∙ c.shape.ensures.shape) in
     let size : c.len.result ≡ length c.args.raw.ends.items = search rules in
-    let same : c.from.result ≡ c.node_count-nodes.result = search rules in
     let many : c.len-2.result ≡ length calls = search rules in
     let count = many ∙ sym (length-map calls call_value) in
     let few = c.in_ok-calls.ensures.few in
@@ -79,7 +76,7 @@ new-requires c =
     record {
       tree = c.shape.ensures.whole.shape;
       size = c.shape.ensures.whole.count;
-      end_size = sym size ∙ c.if-len-from.false ∙ same ∙ nodes;
+      end_size = sym size ∙ c.if-len-nodes.false ∙ nodes;
       few = omega arith;
       calls = c.in_ok-calls.ensures.calls;
       nodes = subst (λ n. All (IsOfNodes n) past) nodes c.in_ok-history.ensures.nodes;
@@ -95,8 +92,7 @@ returns-clause-ok c =
     let calls_are = ap (λ vs. calls_as procedures (map call_form vs)) (sym c.deref-2.ensures.value) ∙ c.in_ok-calls.ensures.ok in
     let nodes : c.node_count-nodes.result ≡ length c.args.tree.parents = c.node_count-nodes.ensures.count ∙ ap length (c.deref-3.ensures ∙ c.shape.ensures.shape) in
     let size : c.len.result ≡ length raw.ends.items = search rules in
-    let same : c.from.result ≡ c.node_count-nodes.result = search rules in
     let many : c.len-2.result ≡ length c.in_ok-calls.calls.items = search rules in
     λ parts. subst (λ (t : TrailValue). IsTrailOf c.args.tree (form_with raw parts) t) (sym c.new.ensures)
-    (trail_stands c.args.tree raw procedures taken calls calls_are (sym size ∙ c.if-len-from.false ∙ same ∙ nodes) c.len-2.result c.node_count-nodes.result c.deref-4.result.now
+    (trail_stands c.args.tree raw procedures taken calls calls_are (sym size ∙ c.if-len-nodes.false ∙ nodes) c.len-2.result c.node_count-nodes.result c.deref-4.result.now
     (many ∙ sym (length-map c.in_ok-calls.calls.items call_value)) nodes c.deref-4.ensures.value c.in_ok-history.history.past c.in_ok-history.ensures.ok c.in_ok-history.ensures.few parts)

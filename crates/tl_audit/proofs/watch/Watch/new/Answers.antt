@@ -4,7 +4,7 @@ use Rattle.tl_audit.proofs.watch.Watch.new.Goals as goal
 pub returns : goal.returns
 returns c =
     let tree = c.args.opening.now in
-    let nodes_are : c.from-nodes.result ≡ length tree.parents = c.from-nodes.ensures ∙ c.node_count.ensures.count ∙ ap length (c.deref.ensures ∙ c.shape.ensures.shape) in
+    let nodes_are : c.node_count-nodes.result ≡ length tree.parents = c.node_count-nodes.ensures.count ∙ ap length (c.deref.ensures ∙ c.shape.ensures.shape) in
     let records : c.extend_from_slice.new.self.items ≡ tree.records = search rules in
     let checked = c.in_ok-new.ensures.checked tree.parents (sym nodes_are) in
     record {

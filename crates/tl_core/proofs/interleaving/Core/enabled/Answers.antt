@@ -39,7 +39,7 @@ returns-in-Lock-clause-enabled c =
     let p = at_read _ _ _ _ _ _ _ c.self.invariant c.args.call c.in-Some.slot c.index.result.now c.index-2.result.now (omega arith) c.index.ensures (sym c.slot.ensures ∙ c.in-Some.is) c.index-2.ensures in
     let k = kept_here _ _ _ _ _ _ _ c.self.invariant c.args.call c.in-Some.slot c.index.result.now c.index-2.result.now p in
     let slot = holder_slot _ _ _ _ _ _ c.self.invariant.core c.args.call _ k c.in-Lock.node (subst (Stops c.index-2.result.now.turn) c.in-Lock.is (subst (Wants c.index-2.result.now.turn) c.in-Stop.is c.want.ensures)) in
-    let held = holder_read c.self.inside.holders.items c.from.result c.in-Lock.node c.index-in-Lock.result.now c.index-in-Lock.result.now c.from.ensures (omega arith) c.index-in-Lock.ensures refl in
+    let held = holder_read c.self.inside.holders.items c.in-Lock.node c.in-Lock.node c.index-in-Lock.result.now c.index-in-Lock.result.now refl (omega arith) c.index-in-Lock.ensures refl in
     rw (← c.self.view_is) (lock_enabled _ _ _ _ _ _ c.self.invariant.core c.args.call _ k c.in-Lock.node (subst (Stops c.index-2.result.now.turn) c.in-Lock.is (subst (Wants c.index-2.result.now.turn) c.in-Stop.is c.want.ensures)) c.index-in-Lock.result.now held c.is_none.result c.is_none.ensures)
 
 pub returns-in-Free-clause-enabled : goal.returns-in-Free-clause-enabled

@@ -77,7 +77,7 @@ invariant_of-self c =
     let stops = subst (λ t. Stops t (stop.Free c.args.node)) (sym (turn_same _ _ _ _ _ _ _ c.self.invariant c.args.call c.in-Some.slot c.index.result.now c.index_mut-current.result.now p c.requires.0 kept)) c.requires.2 in
     let same = c.free-left.ensures.same in
     let freed = c.free-left.ensures.frees in
-    rw c.from.ensures (whole_then _ _ _ _ _ _ _ c.self.invariant c.args.call c.in-Some.slot c.index.result.now c.index_mut-current.result.now p c.free-left.new.self (c.index_mut-current.result.now.places - 1) (ap (λ t. t.code) same) c.append.new.self.past c.append.new.self.limit _ _ c.append.new.self.reserved (free_kept _ _ _ _ _ _ c.self.invariant.core c.args.call _ k c.args.node stops c.free-left.result c.free-left.new.self same freed c.append.new.self c.append.ensures c.put_at.new.self c.put_at.ensures) _ c.self.invariant.room)
+    whole_then _ _ _ _ _ _ _ c.self.invariant c.args.call c.in-Some.slot c.index.result.now c.index_mut-current.result.now p c.free-left.new.self (c.index_mut-current.result.now.places - 1) (ap (λ t. t.code) same) c.append.new.self.past c.append.new.self.limit _ _ c.append.new.self.reserved (free_kept _ _ _ _ _ _ c.self.invariant.core c.args.call _ k c.args.node stops c.free-left.result c.free-left.new.self same freed c.append.new.self c.append.ensures c.put_at.new.self c.put_at.ensures) _ c.self.invariant.room
 
 pub returns-clause-answer : goal.returns-clause-answer
 returns-clause-answer c =

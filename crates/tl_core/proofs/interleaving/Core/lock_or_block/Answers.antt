@@ -1,4 +1,4 @@
-use Rattle.std.proofs.Common.{◌≡◌, ◌-◌, sym, ap, ◌∙◌, subst, arith, Some, None}
+use Rattle.std.proofs.Common.{◌≡◌, ◌-◌, refl, sym, ap, ◌∙◌, subst, arith, Some, None}
 use Rattle.tl_tree_locking.specs.declared.action.Action.TheVariants as did
 use Rattle.tl_machine.specs.Turns.{Stops}
 use Rattle.tl_machine.specs.declared.want.Stop.TheVariants as stop
@@ -28,7 +28,7 @@ returns-in-Some-held_by-clause-answer c =
     let k = kept_with _ _ _ _ _ _ _ c.self.invariant c.args.call c.requires.0 kept in
     let stops = subst (λ t. Stops t (stop.Lock c.args.node)) (sym k.turn) c.requires.2 in
     let slot = holder_slot _ _ _ _ _ _ c.self.invariant.core c.args.call _ k.there c.args.node stops in
-    let held = holder_read c.self.inside.holders.items c.from.result c.args.node c.index-held_by.result.now (Some c.in-Some-held_by.holder) c.from.ensures (omega arith) c.index-held_by.ensures c.in-Some-held_by.is in
+    let held = holder_read c.self.inside.holders.items c.args.node c.args.node c.index-held_by.result.now (Some c.in-Some-held_by.holder) refl (omega arith) c.index-held_by.ensures c.in-Some-held_by.is in
     rw (← c.self.view_is) (blocked_answer _ _ _ _ _ _ c.self.invariant.core c.args.call _ k.there c.args.node stops c.in-Some-held_by.holder held)
 
 pub record_at-found-requires : goal.record_at-found-requires
@@ -85,9 +85,9 @@ invariant_of-self c =
     let k = kept_here _ _ _ _ _ _ _ c.self.invariant c.args.call c.in-Some.slot c.index.result.now c.index_mut-current.result.now p in
     let stops = subst (λ t. Stops t (stop.Lock c.args.node)) (sym (turn_same _ _ _ _ _ _ _ c.self.invariant c.args.call c.in-Some.slot c.index.result.now c.index_mut-current.result.now p c.requires.0 kept)) c.requires.2 in
     let slot = holder_slot _ _ _ _ _ _ c.self.invariant.core c.args.call _ k c.args.node stops in
-    let held = holder_read c.self.inside.holders.items c.from.result c.args.node c.index-held_by.result.now None c.from.ensures (omega arith) c.index-held_by.ensures c.in_default-held_by.is in
+    let held = holder_read c.self.inside.holders.items c.args.node c.args.node c.index-held_by.result.now None refl (omega arith) c.index-held_by.ensures c.in_default-held_by.is in
     let same = c.lock_node.ensures.same in
-    rw c.from-2.ensures (whole_then _ _ _ _ _ _ _ c.self.invariant c.args.call c.in-Some.slot c.index.result.now c.index_mut-current.result.now p c.lock_node.new.self (c.index_mut-current.result.now.places - 1) (ap (λ t. t.code) same) c.append.new.self.past c.append.new.self.limit _ _ c.append.new.self.reserved (lock_kept _ _ _ _ _ _ c.self.invariant.core c.args.call _ k c.args.node stops held c.record_at-found.result c.record_at-found.ensures c.lock_node.new.self same (c.lock_node.ensures.locks) c.append.new.self c.append.ensures) _ c.self.invariant.room)
+    whole_then _ _ _ _ _ _ _ c.self.invariant c.args.call c.in-Some.slot c.index.result.now c.index_mut-current.result.now p c.lock_node.new.self (c.index_mut-current.result.now.places - 1) (ap (λ t. t.code) same) c.append.new.self.past c.append.new.self.limit _ _ c.append.new.self.reserved (lock_kept _ _ _ _ _ _ c.self.invariant.core c.args.call _ k c.args.node stops held c.record_at-found.result c.record_at-found.ensures c.lock_node.new.self same (c.lock_node.ensures.locks) c.append.new.self c.append.ensures) _ c.self.invariant.room
 
 pub returns-clause-answer : goal.returns-clause-answer
 returns-clause-answer c =
@@ -97,7 +97,7 @@ returns-clause-answer c =
     let k = kept_here _ _ _ _ _ _ _ c.self.invariant c.args.call c.in-Some.slot c.index.result.now c.index_mut-current.result.now p in
     let stops = subst (λ t. Stops t (stop.Lock c.args.node)) (sym (turn_same _ _ _ _ _ _ _ c.self.invariant c.args.call c.in-Some.slot c.index.result.now c.index_mut-current.result.now p c.requires.0 kept)) c.requires.2 in
     let slot = holder_slot _ _ _ _ _ _ c.self.invariant.core c.args.call _ k c.args.node stops in
-    let held = holder_read c.self.inside.holders.items c.from.result c.args.node c.index-held_by.result.now None c.from.ensures (omega arith) c.index-held_by.ensures c.in_default-held_by.is in
+    let held = holder_read c.self.inside.holders.items c.args.node c.args.node c.index-held_by.result.now None refl (omega arith) c.index-held_by.ensures c.in_default-held_by.is in
     rw (← c.self.view_is) (lock_answer _ _ _ _ _ _ c.self.invariant.core c.args.call _ k c.args.node stops held c.record_at-found.result c.record_at-found.ensures)
 
 pub returns-clause-after : goal.returns-clause-after
@@ -108,7 +108,7 @@ returns-clause-after c =
     let k = kept_here _ _ _ _ _ _ _ c.self.invariant c.args.call c.in-Some.slot c.index.result.now c.index_mut-current.result.now p in
     let stops = subst (λ t. Stops t (stop.Lock c.args.node)) (sym (turn_same _ _ _ _ _ _ _ c.self.invariant c.args.call c.in-Some.slot c.index.result.now c.index_mut-current.result.now p c.requires.0 kept)) c.requires.2 in
     let slot = holder_slot _ _ _ _ _ _ c.self.invariant.core c.args.call _ k c.args.node stops in
-    let held = holder_read c.self.inside.holders.items c.from.result c.args.node c.index-held_by.result.now None c.from.ensures (omega arith) c.index-held_by.ensures c.in_default-held_by.is in
+    let held = holder_read c.self.inside.holders.items c.args.node c.args.node c.index-held_by.result.now None refl (omega arith) c.index-held_by.ensures c.in_default-held_by.is in
     let same = c.lock_node.ensures.same in
     rw (← c.self.view_is) (seen_on _ _ _ _ _ _ _ c.self.invariant c.args.call c.in-Some.slot c.index.result.now c.index_mut-current.result.now p c.lock_node.new.self (c.index_mut-current.result.now.places - 1) (ap (λ t. t.code) same) c.append.new.self.past c.append.new.self.limit ∙ lock_seen _ _ _ _ _ _ c.self.invariant.core c.args.call _ k c.args.node stops held c.record_at-found.result c.record_at-found.ensures c.lock_node.new.self same (c.lock_node.ensures.locks) c.append.new.self c.append.ensures)
 

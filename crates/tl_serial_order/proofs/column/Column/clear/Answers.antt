@@ -6,6 +6,5 @@ use Rattle.tl_serial_order.proofs.column.Column.clear.Goals as goal
 
 pub returns : goal.returns
 returns c =
-    map-set call_in c.self.inside.entries.items c.from.result NO_CALL
-    ∙ ap (λ calls. set calls c.from.result None) c.self.view_is
-    ∙ ap (λ node. set c.args.self.now node None) c.from.ensures
+    map-set call_in c.self.inside.entries.items c.args.node NO_CALL
+    ∙ ap (λ calls. set calls c.args.node None) c.self.view_is

@@ -10,7 +10,6 @@ returns c =
     let entries = c.self.inside.entries.items in
     let call = c.args.call in
     let some : call_in call ≡ Some call = rw (ne_eqb call NO_CALL (λ same. omega (arith, same, c.requires.call))) refl in
-    map-set call_in entries c.from.result call
-    ∙ ap (λ entry. set (map call_in entries) c.from.result entry) some
-    ∙ ap (λ calls. set calls c.from.result (Some call)) c.self.view_is
-    ∙ ap (λ node. set c.args.self.now node (Some call)) c.from.ensures
+    map-set call_in entries c.args.node call
+    ∙ ap (λ entry. set (map call_in entries) c.args.node entry) some
+    ∙ ap (λ calls. set calls c.args.node (Some call)) c.self.view_is

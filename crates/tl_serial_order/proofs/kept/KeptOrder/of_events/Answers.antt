@@ -10,7 +10,7 @@ use Rattle.tl_serial_order.proofs.kept.KeptOrder.of_events.Goals as goal
 pub loop-event-init : goal.loop-event-init
 loop-event-init c = (
   c.in_ok-kept.ensures.calls,
-  subst (IsOfSize c.in_ok-kept.kept) (c.from.ensures ∙ c.node_count.ensures.count) c.in_ok-kept.ensures.size,
+  subst (IsOfSize c.in_ok-kept.kept) c.node_count.ensures.count c.in_ok-kept.ensures.size,
   c.in_ok-kept.ensures.kept c.args.shape.now,
 )
 

@@ -1,4 +1,4 @@
-use Rattle.std.proofs.Common.{◌≡◌, ◌<◌, false, length, map, sym, ap, ◌∙◌, subst, arith}
+use Rattle.std.proofs.Common.{◌≡◌, ◌<◌, false, length, map, refl, sym, ap, ◌∙◌, subst, arith}
 use Rattle.std.proofs.lemmas.List.{length-map}
 use Rattle.tl_tree_locking.specs.Actions.{locked}
 use Rattle.tl_serial_order.specs.Part.{IsPart, was_locked, is_held}
@@ -22,7 +22,7 @@ returns-then-self-eq0 c done part =
           sym (may_come-no_marks shape c.requires.tree ls hs size (omega (arith, c.self.invariant, w.if-self-eq0.true)) done own c.args.node c.requires.node)
       | then-self-eq0-via-else-self-eq0+then-was_locked w ↦
           let inside : c.args.node < length ls = omega (arith, c.requires.node) in
-          let marked = read_at was_locked ms c.args.node w.from.result w.index.result.now w.was_locked.result w.from.ensures (omega (arith, all, inside)) w.index.ensures w.was_locked.ensures in
+          let marked = read_at was_locked ms c.args.node c.args.node w.index.result.now w.was_locked.result refl (omega (arith, all, inside)) w.index.ensures w.was_locked.ensures in
           sym (may_come-locked shape done c.args.node (sym (own.locks c.args.node inside) ∙ sym marked ∙ w.if-was_locked.true))
     ]
 
@@ -36,7 +36,7 @@ loop-step-preserved c =
     let up = c.parent-step.result in
     let size : length ls ≡ length shape = ap (λ m. length m.locked) c.self.view_is ∙ c.requires.nodes in
     let inside = c.parent-step.ensures.inside in
-    let marked = read_at was_locked ms up c.from-in-loop-step.result c.index-in-loop-step.result.now c.was_locked-in-loop-step.result c.from-in-loop-step.ensures (omega (arith, all, size, inside)) c.index-in-loop-step.ensures c.was_locked-in-loop-step.ensures in (
+    let marked = read_at was_locked ms up up c.index-in-loop-step.result.now c.was_locked-in-loop-step.result refl (omega (arith, all, size, inside)) c.index-in-loop-step.ensures c.was_locked-in-loop-step.ensures in (
       inside,
       λ done part.
           let own : IsPart (marks ls hs) done = subst (λ m. IsPart m done) (sym c.self.view_is) part in
@@ -58,10 +58,10 @@ returns-then-was_locked-2 c done part =
     let size : length ls ≡ length shape = ap (λ m. length m.locked) c.self.view_is ∙ c.requires.nodes in
     let inside = c.parent-step.ensures.inside in
     let node_inside : c.args.node < length ls = omega (arith, c.requires.node) in
-    let here = read_at was_locked ms c.args.node c.from.result c.index.result.now c.was_locked.result c.from.ensures (omega (arith, all, node_inside)) c.index.ensures c.was_locked.ensures in
+    let here = read_at was_locked ms c.args.node c.args.node c.index.result.now c.was_locked.result refl (omega (arith, all, node_inside)) c.index.ensures c.was_locked.ensures in
     let free : locked done c.args.node ≡ false = sym (own.locks c.args.node node_inside) ∙ sym here ∙ c.if-was_locked.false in
-    let marked = read_at was_locked ms up c.from-in-loop-step.result c.index-in-loop-step.result.now c.was_locked-in-loop-step.result c.from-in-loop-step.ensures (omega (arith, all, size, inside)) c.index-in-loop-step.ensures c.was_locked-in-loop-step.ensures in
-    let kept = read_at is_held ms up c.from-then-was_locked-2.result c.index-then-was_locked-2.result.now c.is_held.result c.from-then-was_locked-2.ensures (omega (arith, all, size, inside)) c.index-then-was_locked-2.ensures c.is_held.ensures in
+    let marked = read_at was_locked ms up up c.index-in-loop-step.result.now c.was_locked-in-loop-step.result refl (omega (arith, all, size, inside)) c.index-in-loop-step.ensures c.was_locked-in-loop-step.ensures in
+    let kept = read_at is_held ms up up c.index-then-was_locked-2.result.now c.is_held.result refl (omega (arith, all, size, inside)) c.index-then-was_locked-2.ensures c.is_held.ensures in
     kept ∙ sym (may_come-comes shape done c.args.node free ∙ c.loop-step.invariant.1 done part
     ∙ comes_up-locked shape c.requires.tree ls hs size done own c.loop-step.step up (omega (arith, c.loop-step-test.true)) c.loop-step.invariant.0
     c.parent-step.ensures.parent inside (sym marked ∙ c.if-was_locked-2.true))
@@ -76,7 +76,7 @@ returns c done part =
     let own : IsPart (marks ls hs) done = subst (λ m. IsPart m done) (sym c.self.view_is) part in
     let size : length ls ≡ length shape = ap (λ m. length m.locked) c.self.view_is ∙ c.requires.nodes in
     let node_inside : c.args.node < length ls = omega (arith, size, c.requires.node) in
-    let here = read_at was_locked ms c.args.node c.from.result c.index.result.now c.was_locked.result c.from.ensures (omega (arith, all, node_inside)) c.index.ensures c.was_locked.ensures in
+    let here = read_at was_locked ms c.args.node c.args.node c.index.result.now c.was_locked.result refl (omega (arith, all, node_inside)) c.index.ensures c.was_locked.ensures in
     let free : locked done c.args.node ≡ false = sym (own.locks c.args.node node_inside) ∙ sym here ∙ c.if-was_locked.false in
     let root : c.loop-step.step ≡ 0 = omega (arith, c.loop-step-test.false) in
     sym (may_come-comes shape done c.args.node free ∙ c.loop-step.invariant.1 done part ∙ ap (comes shape done) root ∙ comes-root shape done)

@@ -11,7 +11,7 @@ loop-step-preserved c =
     let tree = c.self.invariant.0 in
     let now = c.loop-step.invariant in
     let up : c.index-step.result.now ≡ parent parents c.loop-step.step =
-    get_or_read parents c.from.result c.index-step.result.now (omega arith) c.index-step.ensures 0 ∙ ap (λ i. get_or parents i 0) c.from.ensures in
+    get_or_read parents c.loop-step.step c.index-step.result.now (omega arith) c.index-step.ensures 0 in
     let lower = tree.lower c.loop-step.step (omega arith) now.0 in
     let other : c.loop-step.step ≢ c.args.upper = omega arith in
     rw up (omega (arith, lower), ((λ above. now.1.0 (below above)), (λ above. Above-parent parents c.args.upper c.loop-step.step other (now.1.1 above))))
