@@ -2,7 +2,7 @@
 use Rattle.std.proofs.Common.{◌≡◌, ℕ, zero, suc, ◌<◌, ◌≤◌, List, [], ◌∷◌, length, map, Some, slice_get, refl, sym, ap, ◌∙◌, arith}
 use Rattle.tl_tree.specs.Records.{Records, Record}
 use Rattle.tl_ledger.specs.declared.rows.RecordRow.{RecordRow}
-use Rattle.tl_store.specs.Rows.{fields_in}
+use Rattle.tl_rows.specs.Rows.{fields_in}
 use Rattle.tl_export.specs.Differing.{IsSame}
 
 was_same : (records : Records) (rows : List RecordRow) (node : ℕ) (x : Record) (row : RecordRow) → slice_get records node ≡ Some x → slice_get rows node ≡ Some row → IsSame records rows node

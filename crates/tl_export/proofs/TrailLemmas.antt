@@ -3,7 +3,7 @@ use Rattle.std.proofs.Common.{◌≡◌, ℕ, zero, suc, ◌+◌, List, [], ◌�
 use Rattle.tl_trail.specs.Trails.{TrailValue}
 use Rattle.tl_audit.specs.Chains.{CleanAfter, AreCleanFiles, after_file, last_trail, opening_of}
 use Rattle.tl_ledger.specs.Contents.{Contents}
-use Rattle.tl_store.specs.Rows.{fields_in}
+use Rattle.tl_rows.specs.Rows.{fields_in}
 use Rattle.tl_export.specs.declared.plan.Plan.{Plan}
 use Rattle.tl_export.specs.Epochs.{IsTrailOf}
 use Rattle.tl_export.specs.Exported.{TookMore, files_of, EachIsOf, IsAlong}

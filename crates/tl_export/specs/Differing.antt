@@ -2,7 +2,7 @@
 use Rattle.std.specs.Prelude.{◌≡◌, ◌⊎◌, ℕ, ◌<◌, List, length, slice_get, Some}
 use Rattle.tl_tree.specs.Records.{Records}
 use Rattle.tl_ledger.specs.declared.rows.RecordRow.{RecordRow}
-use Rattle.tl_store.specs.Rows.{fields_in}
+use Rattle.tl_rows.specs.Rows.{fields_in}
 
 -- the record of a node is that of its row
 pub record IsSame (records : Records) (rows : List RecordRow) (node : ℕ) : Type 0 where

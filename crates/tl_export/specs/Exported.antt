@@ -3,7 +3,7 @@ use Rattle.std.specs.Prelude.{◌≡◌, ℕ, ◌+◌, List, [], ◌∷◌, ◌+
 use Rattle.tl_trail.specs.Trails.{TrailValue}
 use Rattle.tl_audit.specs.Chains.{AreCleanFiles, last_trail, opening_of}
 use Rattle.tl_ledger.specs.Contents.{Contents}
-use Rattle.tl_store.specs.Rows.{fields_in}
+use Rattle.tl_rows.specs.Rows.{fields_in}
 use Rattle.tl_export.specs.declared.plan.Plan.{Plan}
 use Rattle.tl_export.specs.Plans.{IsPlanOf}
 use Rattle.tl_export.specs.Epochs.{IsTrailOf}

@@ -1,7 +1,7 @@
 // The first record that isn't that of its node.
 
 ghost use Rattle.std.specs.Prelude.{◌≡◌, ◌↔◌, map, IsTrue, IfSome, IfNone};
-ghost use Rattle.tl_store.specs.Rows.{fields_in};
+ghost use Rattle.tl_rows.specs.Rows.{fields_in};
 ghost use Rattle.tl_export.specs.Differing.{IsSame, IsFirstOther};
 
 use tl_ledger::RecordRow;

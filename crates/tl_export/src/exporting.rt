@@ -5,7 +5,7 @@ ghost use Rattle.sqlite_trees.specs.View.{IsClean, IsQuiet, KeepsSchema};
 ghost use Rattle.tl_audit.specs.Chains.{CleanAfter, after_file};
 ghost use Rattle.tl_trail.specs.Trails.{TrailValue};
 ghost use Rattle.tl_ledger.specs.Contents.{OnlyReads, Contents, Holds, AreTables};
-ghost use Rattle.tl_store.specs.Rows.{fields_in};
+ghost use Rattle.tl_rows.specs.Rows.{fields_in};
 ghost use Rattle.tl_export.specs.Plans.{IsPlanOf};
 ghost use Rattle.tl_export.specs.Differing.{IsFirstOther};
 ghost use Rattle.tl_export.specs.Epochs.{IsTrailOf};

@@ -4,7 +4,7 @@ ghost use Rattle.std.specs.Prelude.{◌≡◌, ◌∷◌, [], None, length, map,
 ghost use Rattle.sqlite_trees.specs.View.{IsClean, IsQuiet, KeepsSchema};
 ghost use Rattle.tl_audit.specs.Chains.{CleanAfter, after_file, order_of};
 ghost use Rattle.tl_ledger.specs.Contents.{OnlyReads, Contents, Holds, AreTables};
-ghost use Rattle.tl_store.specs.Rows.{fields_in};
+ghost use Rattle.tl_rows.specs.Rows.{fields_in};
 ghost use Rattle.tl_export.specs.Plans.{IsPlanOf};
 ghost use Rattle.tl_export.specs.Epochs.{IsTrailOf, IsMadeOf};
 
@@ -17,8 +17,9 @@ use std::slice;
 use tl_audit::{ChainFault, Silent, audit_chain_after};
 use tl_ledger::{FIELDS, RecordRow};
 use tl_record::trail_of;
+use tl_rows::record_rows;
 use tl_serial_order::Order;
-use tl_store::{Recovered, StoreFault, Stored, rebuild, record_rows};
+use tl_store::{Recovered, StoreFault, Stored, rebuild};
 use tl_trail::Trail;
 
 // The records with which an epoch begins on so many nodes: those that the one before left, and zeros for the nodes that are new. Before the first epoch,

@@ -1,4 +1,0 @@
-pub mod AddedLemmas
-pub mod CallLemmas
-pub mod ChangeLemmas
-pub mod TurnLemmas

@@ -4,7 +4,6 @@ ghost use Rattle.std.specs.Prelude.{◌≡◌, ◌≢◌, false, IfSome};
 ghost use Rattle.tl_server.specs.declared.journal.Claim.TheVariants.{NoStore};
 
 use crate::desk::Desk;
-use crate::pending::Pending;
 use sqlite_trees::error::StoreError;
 use sqlite_trees::store::Store;
 use std::alloc::Global;
@@ -12,6 +11,7 @@ use std::sync::{Condvar, Mutex, Wait};
 use tl_keys::KeyIndex;
 use tl_ledger::{Ledger, Marks, News};
 use tl_news::news_since;
+use tl_pending::Pending;
 use tl_procedures::Procedures;
 use tl_server::{Claim, CopyRefusal, Journal, Unstored};
 use tl_tree::Record;

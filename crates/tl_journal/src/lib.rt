@@ -2,11 +2,7 @@
 //! told of it.
 #![tactic(auto)]
 
-mod changes;
-mod claims;
 mod desk;
 mod journal;
-mod pending;
-mod rows;
 
 pub use journal::{JournalParts, LedgerJournal};

@@ -23,7 +23,7 @@ use Rattle.tl_ledger.specs.declared.rows.ProcedureRow.{ProcedureRow}
 use Rattle.tl_recover.specs.Redriven.{Fits, GoesOn, AreTurnsTo}
 use Rattle.tl_recover.proofs.Retaken.{admits_later, same_meaning}
 use Rattle.tl_store.specs.declared.stored.Stored.{Stored}
-use Rattle.tl_store.specs.Rows.{call_form, request_form, HasArguments, procedure_form, named_form, turn_bytes, all_turn_bytes}
+use Rattle.tl_rows.specs.Rows.{call_form, request_form, HasArguments, procedure_form, named_form, turn_bytes, all_turn_bytes}
 use Rattle.tl_store.specs.Recovered.{IsReplyOf, IsOpened, AreOfCore}
 use Rattle.tl_store.proofs.RebuiltLemmas.{fits_none}
 

@@ -11,7 +11,7 @@ use Rattle.tl_tree_locking.specs.History.{caller, is_done}
 use Rattle.tl_tree_locking.specs.World.{reply_of}
 use Rattle.tl_core.specs.Cores.{CoreValue, world_of}
 use Rattle.tl_ledger.specs.declared.rows.ReplyRow.{ReplyRow}
-use Rattle.tl_store.specs.Rows.{numbers_in, turn_bytes}
+use Rattle.tl_rows.specs.Rows.{numbers_in, turn_bytes}
 use Rattle.tl_store.specs.Closing.{HasReply, IsLateReply, AreLateReplies}
 use Rattle.tl_store.proofs.TurnLemmas.{turns_joined}
 

@@ -3,7 +3,6 @@ mod CallLemmas
 mod RebuiltLemmas
 mod StoredLemmas
 mod ReplyLemmas
-mod ChangeLemmas
 mod ClosingLemmas
 mod ProcedureLemmas
 mod AgainLemmas

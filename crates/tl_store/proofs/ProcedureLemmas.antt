@@ -5,7 +5,7 @@ use Rattle.std.proofs.Math.Seq.{take-length}
 use Rattle.tl_procedures.specs.Names.{Named, BeginsWith, no_procedure, put, latest, MayPut, MayPutAll}
 use Rattle.tl_procedures.proofs.Replacing.{latest_push}
 use Rattle.tl_ledger.specs.declared.rows.ProcedureRow.{ProcedureRow}
-use Rattle.tl_store.specs.Rows.{procedure_form, named_form, AreLatest}
+use Rattle.tl_rows.specs.Rows.{procedure_form, named_form, AreLatest}
 
 pub latest_none : AreLatest [] []
 latest_none = ([], refl, refl)

@@ -10,7 +10,7 @@ use Rattle.tl_ledger.specs.declared.rows.CallRow.{CallRow}
 use Rattle.std.specs.Prelude.{All}
 use Rattle.tl_recover.specs.Redriven.{IsAsked, Fits, GoesOn}
 use Rattle.tl_store.specs.declared.stored.Stored.{Stored}
-use Rattle.tl_store.specs.Rows.{AreLatest, call_form, request_form, AreNumbered, turn_bytes, all_turn_bytes}
+use Rattle.tl_rows.specs.Rows.{AreLatest, call_form, request_form, AreNumbered, turn_bytes, all_turn_bytes}
 use Rattle.tl_store.specs.Recovered.{IsCallOf, IsReplyOf, IsOpened, IsRebuilt}
 
 -- the request at the position of a row is the row's

@@ -7,9 +7,9 @@ use Rattle.tl_ledger.specs.declared.news.News.{News}
 use Rattle.tl_ledger.specs.declared.rows.ReplyRow.{ReplyRow}
 use Rattle.tl_ledger.specs.declared.rows.SealRow.{SealRow}
 use Rattle.tl_store.specs.declared.stored.Stored.{Stored}
-use Rattle.tl_store.specs.Rows.{turn_bytes, all_turn_bytes}
+use Rattle.tl_rows.specs.Rows.{turn_bytes, all_turn_bytes}
 use Rattle.tl_store.specs.Recovered.{IsReplyOf}
-use Rattle.tl_store.specs.Changes.{Leads}
+use Rattle.tl_rows.specs.Changes.{Leads}
 
 -- a row has a reply of the call
 abbrev pub HasReply : List ReplyRow → ℕ → Type 0

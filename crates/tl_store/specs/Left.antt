@@ -4,7 +4,7 @@ use Rattle.tl_tree.specs.Trees.{TreeValue}
 use Rattle.tl_procedures.specs.Names.{Named}
 use Rattle.tl_ledger.specs.Contents.{Contents}
 use Rattle.tl_store.specs.declared.stored.Stored.{Stored}
-use Rattle.tl_store.specs.Rows.{parent_in, fields_in, AreLatest}
+use Rattle.tl_rows.specs.Rows.{parent_in, fields_in, AreLatest}
 use Rattle.tl_store.specs.Stored.{AreStored}
 
 -- the rows have this tree and these procedures, and no call after the last seal

@@ -10,7 +10,7 @@ use Rattle.tl_ledger.specs.Contents.{Contents}
 use Rattle.tl_ledger.specs.declared.rows.CallRow.{CallRow}
 use Rattle.tl_ledger.specs.declared.rows.ReplyRow.{ReplyRow}
 use Rattle.tl_store.specs.declared.stored.Stored.{Stored}
-use Rattle.tl_store.specs.Rows.{numbers_in, parent_in, fields_in, procedure_form, named_form, AreLatest, AreNumbered, turn_bytes, all_turn_bytes, IsTurnRow}
+use Rattle.tl_rows.specs.Rows.{numbers_in, parent_in, fields_in, procedure_form, named_form, AreLatest, AreNumbered, turn_bytes, all_turn_bytes, IsTurnRow}
 use Rattle.tl_store.specs.Stored.{AreStored}
 
 -- call n is of the row's procedure with its arguments

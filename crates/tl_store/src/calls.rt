@@ -1,42 +1,14 @@
-// The calls that were admitted.
+// The requests of calls that were admitted.
 
-ghost use Rattle.std.specs.Prelude.{◌≡◌, Some, All, pos, map, option_map, option_copied, string_bytes, ◌↔◌, IsTrue, IfOk, IfErr};
+ghost use Rattle.std.specs.Prelude.{◌≡◌, All, pos, map, ◌↔◌, IsTrue, IfOk, IfErr};
 ghost use Rattle.tl_store.specs.declared.fault.StoreFault.TheVariants.{Memory};
-ghost use Rattle.tl_store.specs.Rows.{call_form, request_form, HasArguments, AreNumbered};
+ghost use Rattle.tl_rows.specs.Rows.{call_form, request_form, HasArguments, AreNumbered};
 
 use crate::fault::StoreFault;
-use crate::numbers::{is_epoch, numbers_of_text, text_of_numbers};
-use std::alloc::{AllocError, Global};
+use std::alloc::Global;
 use tl_ledger::{CALL, CallRow};
 use tl_procedures::Request;
-
-/// The row of a call: its epoch, its number there, its procedure's name, its arguments as JSON text, and its client's key for it.
-pub fn call_row(
-    alloc: Global,
-    epoch: i64,
-    number: i64,
-    procedure: &str,
-    args: &[i64],
-    key: Option<&str>,
-) -> Result<CallRow, AllocError>
-    ensures place { IfOk result (λ row. (row.epoch ≡ epoch) × (row.number ≡ number)) }
-    ensures form { IfOk result (λ row. call_form row ≡ (procedure.now, Some args.now)) }
-    ensures key { IfOk result (λ row. option_map string_bytes row.key ≡ option_copied key.entry) }
-{
-    let procedure = String::from_str(alloc, procedure)?;
-    let arguments = text_of_numbers(alloc, args)?;
-    let key = match key {
-        Some(key) => Some(String::from_str(alloc, key)?),
-        None => None,
-    };
-    Ok(CallRow {
-        epoch,
-        number,
-        procedure,
-        arguments,
-        key,
-    })
-}
+use tl_rows::{is_epoch, numbers_of_text};
 
 // Whether the call has that number.
 fn is_at(call: &CallRow, number: usize) -> bool

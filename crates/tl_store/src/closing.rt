@@ -2,18 +2,16 @@
 
 ghost use Rattle.std.specs.Prelude.{◌≡◌, ◌≢◌, ◌↔◌, ◌+◌, ◌<◌, pos, map, drop, length, Some, All, IsTrue, IsFalse, IfOk, IfSome, OnOk, string_bytes};
 ghost use Rattle.tl_tree_locking.specs.History.{caller};
-ghost use Rattle.tl_store.specs.Rows.{numbers_in, turn_bytes, all_turn_bytes};
+ghost use Rattle.tl_rows.specs.Rows.{numbers_in, turn_bytes, all_turn_bytes};
 ghost use Rattle.tl_store.specs.Recovered.{IsRebuilt};
 ghost use Rattle.tl_store.specs.Closing.{HasReply, AreLateReplies, IsSealOf, IsClosing};
 
-use crate::changes::changed;
 use crate::fault::StoreFault;
-use crate::replies::reply_row;
 use crate::stored::Stored;
-use crate::turns::turn_row;
 use std::alloc::{AllocError, Global};
 use tl_core::Core;
 use tl_ledger::{Marks, News, ReplyRow, SEAL, SealRow, TurnRow};
+use tl_rows::{changed, reply_row, turn_row};
 use tl_tree_locking::Event;
 
 // The call of an event.

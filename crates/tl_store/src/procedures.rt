@@ -7,28 +7,14 @@ ghost use Rattle.tl_verify.specs.Acceptable.{Acceptable};
 ghost use Rattle.tl_procedures.specs.Names.{Named, put, latest, MayPut, MayPutAll};
 ghost use Rattle.tl_json.specs.Procedures.{AreAccepted};
 ghost use Rattle.tl_store.specs.declared.fault.StoreFault.TheVariants as fault;
-ghost use Rattle.tl_store.specs.Rows.{procedure_form, named_form, AreLatest};
+ghost use Rattle.tl_rows.specs.Rows.{procedure_form, named_form, AreLatest};
 
 use crate::fault::StoreFault;
-use std::alloc::{AllocError, Global};
+use std::alloc::Global;
 use tl_instr::{CodeFault, decode};
 use tl_ledger::{PROCEDURE, ProcedureRow};
 use tl_procedures::{NamingFault, Procedures};
 use tl_verify::{Proc, VerifyFault, verify};
-
-/// The row of a procedure: its name, and its container.
-pub fn procedure_row(
-    alloc: Global,
-    name: &str,
-    procedure: &Proc,
-) -> Result<ProcedureRow, AllocError>
-    ensures { IfOk result (λ row. procedure_form row ≡ (name.now, spelling procedure.now)) }
-{
-    Ok(ProcedureRow {
-        name: String::from_str(alloc, name)?,
-        container: procedure.code().container().to_vec(alloc)?,
-    })
-}
 
 // The procedure of a container.
 fn procedure_of(alloc: Global, container: &[u8]) -> Result<Proc, StoreFault>

@@ -1,32 +1,17 @@
 // The replies that were given.
 
-ghost use Rattle.std.specs.Prelude.{◌≡◌, ◌<◌, pos, true, Some, All, length, IsTrue, IfOk, OnOk, IfErr, string_bytes};
+ghost use Rattle.std.specs.Prelude.{◌≡◌, ◌<◌, pos, true, All, length, IsTrue, OnOk, IfErr};
 ghost use Rattle.tl_tree_locking.specs.History.{is_done};
 ghost use Rattle.tl_tree_locking.specs.World.{reply_of};
 ghost use Rattle.tl_core.specs.Cores.{world_of};
 ghost use Rattle.tl_store.specs.declared.fault.StoreFault.TheVariants.{Memory};
-ghost use Rattle.tl_store.specs.Rows.{numbers_in};
 ghost use Rattle.tl_store.specs.Recovered.{IsReplyOf};
 
 use crate::fault::StoreFault;
-use crate::numbers::{is_epoch, numbers_of_text, text_of_numbers};
-use std::alloc::{AllocError, Global};
+use std::alloc::Global;
 use tl_core::Core;
 use tl_ledger::{REPLY, ReplyRow};
-
-/// The row of a reply: the epoch of its call, the call's number there, and the reply as JSON text.
-pub fn reply_row(
-    alloc: Global,
-    epoch: i64,
-    call: i64,
-    reply: &[i64],
-) -> Result<ReplyRow, AllocError>
-    ensures place { IfOk result (λ row. (row.epoch ≡ epoch) × (row.call ≡ call)) }
-    ensures reply { IfOk result (λ row. numbers_in (string_bytes row.reply) ≡ Some reply.now) }
-{
-    let reply = text_of_numbers(alloc, reply)?;
-    Ok(ReplyRow { epoch, call, reply })
-}
+use tl_rows::{is_epoch, numbers_of_text};
 
 // Whether the call is done with that reply.
 fn has_replied(core: &Core, call: u32, values: &[i64]) -> bool

@@ -1,48 +1,15 @@
 // The nodes and their records.
 
-ghost use Rattle.std.specs.Prelude.{◌≡◌, ℕ, List, All, pos, map, length, IfOk, MatchResult};
+ghost use Rattle.std.specs.Prelude.{◌≡◌, ℕ, List, pos, map, length, IfOk, MatchResult};
 ghost use Rattle.tl_tree.specs.Shape.{IsTree};
 ghost use Rattle.tl_store.specs.declared.fault.StoreFault.TheVariants.{Memory};
-ghost use Rattle.tl_store.specs.Rows.{parent_in, fields_in};
+ghost use Rattle.tl_rows.specs.Rows.{parent_in, fields_in};
 
 use crate::fault::StoreFault;
 use std::alloc::{AllocError, Global};
 use std::sync::Arc;
 use tl_ledger::{NODE, NodeRow, RECORD, RecordRow};
 use tl_tree::{Record, Shape, Tree, TreeFault};
-
-/// The rows of a shape's nodes, which were there first at the beginning of that epoch.
-pub fn node_rows(alloc: Global, shape: &Shape, epoch: i64) -> Result<Vec<NodeRow>, AllocError>
-    ensures parents { IfOk result (λ v. map parent_in v.items ≡ map pos shape.now) }
-    ensures epoch { IfOk result (λ v. All (λ r. r.epoch ≡ epoch) v.items) }
-{
-    let mut rows = Vec::new(alloc);
-    for node in 0..shape.node_count() {
-        rows.push(NodeRow {
-            parent: i64::from(shape.parent(node)),
-            epoch,
-        })?;
-    }
-    Ok(rows)
-}
-
-/// The row of a record.
-pub fn record_row(fields: &Record) -> RecordRow
-    ensures { result.fields ≡ fields.now }
-{
-    RecordRow { fields: *fields }
-}
-
-/// The rows of records.
-pub fn record_rows(alloc: Global, records: &[Record]) -> Result<Vec<RecordRow>, AllocError>
-    ensures { IfOk result (λ v. map fields_in v.items ≡ records.now) }
-{
-    let mut rows = Vec::new(alloc);
-    for fields in records {
-        rows.push(record_row(fields))?;
-    }
-    Ok(rows)
-}
 
 fn parents_of(alloc: Global, nodes: &[NodeRow]) -> Result<Vec<i64>, AllocError>
     ensures { IfOk result (λ v. v.items ≡ map parent_in nodes.now) }

@@ -2,25 +2,12 @@
 
 ghost use Rattle.std.specs.Prelude.{◌≡◌, ◌+◌, ◌*◌, ◌<◌, ◌++◌, ℕ, pos, List, [], ◌∷◌, length, get_or, ◌↔◌, IsTrue, IfOk, OnOk, IfErr, All};
 ghost use Rattle.tl_store.specs.declared.fault.StoreFault.TheVariants.{Memory};
-ghost use Rattle.tl_store.specs.Rows.{call_bytes, turn_bytes, all_turn_bytes, IsTurnRow};
+ghost use Rattle.tl_rows.specs.Rows.{call_bytes, turn_bytes, all_turn_bytes, IsTurnRow};
 
 use crate::fault::StoreFault;
-use crate::numbers::is_epoch;
 use std::alloc::{AllocError, Global};
 use tl_ledger::{TURN, TurnRow};
-
-/// The row of turns of an epoch: of each turn its call's number, in two bytes, the higher first. The numbers are below 65,536.
-pub fn turn_row(alloc: Global, epoch: i64, turns: &[u32]) -> Result<TurnRow, AllocError>
-    ensures epoch { IfOk result (λ row. row.epoch ≡ epoch) }
-    ensures calls { IfOk result (λ row. row.calls.items ≡ turn_bytes turns.now) }
-{
-    let mut calls = Vec::new(alloc);
-    for turn in turns {
-        calls.push((*turn / 256 % 256) as u8)?;
-        calls.push((*turn % 256) as u8)?;
-    }
-    Ok(TurnRow { epoch, calls })
-}
+use tl_rows::is_epoch;
 
 // The call whose number stands in two bytes.
 fn call_at(bytes: &[u8], at: usize) -> u32

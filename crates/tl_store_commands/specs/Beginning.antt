@@ -9,7 +9,7 @@ use Rattle.tl_ledger.specs.declared.news.News.{News}
 use Rattle.tl_ledger.specs.Contents.{Contents, Holds}
 use Rattle.tl_ledger.specs.News.{IsMarked, after_news}
 use Rattle.tl_store.specs.declared.stored.Stored.{Stored}
-use Rattle.tl_store.specs.Rows.{parent_in, fields_in}
+use Rattle.tl_rows.specs.Rows.{parent_in, fields_in}
 use Rattle.tl_store.specs.Stored.{AreStored}
 use Rattle.tl_store.specs.Recovered.{IsRebuilt}
 use Rattle.tl_store.specs.Closing.{IsClosing}

@@ -5,7 +5,7 @@ use Rattle.tl_ledger.specs.declared.rows.CallRow.{CallRow}
 use Rattle.tl_ledger.specs.declared.rows.ReplyRow.{ReplyRow}
 use Rattle.tl_ledger.specs.Contents.{Contents}
 use Rattle.tl_ledger.specs.News.{call_columns, reply_columns}
-use Rattle.tl_store.specs.Rows.{numbers_in}
+use Rattle.tl_rows.specs.Rows.{numbers_in}
 use Rattle.tl_keys.specs.Kept.{KeptValue}
 
 -- the reply has the call's epoch and its number there

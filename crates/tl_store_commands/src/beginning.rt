@@ -14,7 +14,8 @@ use sqlite_value::row::Row;
 use std::alloc::{AllocError, Global};
 use tl_core::Core;
 use tl_ledger::{Founding, Ledger, found};
-use tl_store::{StoreFault, node_rows, record_rows};
+use tl_rows::{node_rows, record_rows};
+use tl_store::StoreFault;
 use tl_tree::Tree;
 
 /// What a server with a store begins with: a ledger that isn't shut, and a core without calls.

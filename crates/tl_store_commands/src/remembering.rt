@@ -16,7 +16,8 @@ use tl_keys::{Kept, KeyIndex};
 use tl_ledger::{
     CALL, CallRow, Ledger, Marks, REPLY, ReadEntry, ReplyRow, SEAL, SealRow, read_all, read_some,
 };
-use tl_store::{StoreFault, numbers_of_text};
+use tl_rows::numbers_of_text;
+use tl_store::StoreFault;
 
 // Among how many of the last calls of a store those that had a key are looked for.
 const RECALLED: u64 = 1 << 20;

@@ -9,8 +9,9 @@ use std::test::Fail;
 use tl_audit::{Silent, audit_chain_after};
 use tl_export::{ExportFault, TrailTaker, export};
 use tl_ledger::{ChangedRecord, News, RecordRow, ReplyRow};
+use tl_rows::reply_row;
 use tl_serial_order::Order;
-use tl_store::{StoreFault, reply_row};
+use tl_store::StoreFault;
 use tl_trail::{Trail, read_trail, write_trail};
 
 // The texts of trails.

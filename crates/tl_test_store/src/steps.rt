@@ -6,7 +6,7 @@ use crate::seen::Seen;
 use std::alloc::Global;
 use std::test::Fail;
 use tl_ledger::{ChangedRecord, Founding, News, NodeRow, RecordRow, SealRow};
-use tl_store::{call_row, node_rows, procedure_row, record_rows, reply_row, turn_row};
+use tl_rows::{call_row, node_rows, procedure_row, record_rows, reply_row, turn_row};
 use tl_test_data::{ADD, FORK, procedure_of, tree_of};
 
 /// A root with two children, and a procedure.

@@ -1,5 +1,5 @@
 use Rattle.std.proofs.Common.{◌≡◌, map, take}
-use Rattle.tl_store.specs.Rows.{call_form, request_form}
+use Rattle.tl_rows.specs.Rows.{call_form, request_form}
 use Rattle.tl_store.proofs.calls.requests_of.Given as goal
 
 -- the requests so far are those of the first rows

@@ -2,7 +2,7 @@ use Rattle.std.proofs.Common.{rules, ◌≡◌, ◌≢◌, ◌+◌, ◌∙◌, p
 use Rattle.std.specs.Prelude.{All}
 use Rattle.tl_tree_locking.specs.World.{reply_of}
 use Rattle.tl_core.specs.Cores.{world_of}
-use Rattle.tl_store.specs.Rows.{numbers_in}
+use Rattle.tl_rows.specs.Rows.{numbers_in}
 use Rattle.tl_store.specs.Closing.{HasReply, AreLateReplies}
 use Rattle.tl_store.proofs.ReplyLemmas.{replied}
 use Rattle.tl_store.proofs.ClosingLemmas.{late_stays, late_push, has_none}

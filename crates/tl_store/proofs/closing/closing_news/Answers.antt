@@ -2,8 +2,8 @@ use Rattle.std.proofs.Common.{◌≡◌, ◌∙◌, ◌/◌, ◌∷◌, ◌++◌
 use Rattle.std.specs.Vec.{vec_len}
 use Rattle.indexmap.proofs.ReorderLemmas.{map-reverse}
 use Rattle.tl_tree_locking.specs.History.{caller, records_now}
-use Rattle.tl_store.specs.Rows.{turn_bytes, all_turn_bytes}
-use Rattle.tl_store.specs.Changes.{Leads}
+use Rattle.tl_rows.specs.Rows.{turn_bytes, all_turn_bytes}
+use Rattle.tl_rows.specs.Changes.{Leads}
 use Rattle.tl_store.specs.Closing.{IsSealOf}
 use Rattle.tl_store.proofs.ClosingLemmas.{behind}
 use Rattle.tl_store.proofs.closing.closing_news.Goals as goal

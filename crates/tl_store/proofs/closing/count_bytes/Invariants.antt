@@ -1,5 +1,5 @@
 use Rattle.std.proofs.Common.{◌≡◌, length, take}
-use Rattle.tl_store.specs.Rows.{all_turn_bytes}
+use Rattle.tl_rows.specs.Rows.{all_turn_bytes}
 use Rattle.tl_store.proofs.closing.count_bytes.Given as goal
 
 -- the bytes of the first rows were counted

@@ -1,7 +1,7 @@
 use Rattle.std.proofs.Common.{◌≡◌, List, [], map, take}
 use Rattle.tl_procedures.specs.Names.{Named, latest}
 use Rattle.tl_json.specs.Procedures.{AreAccepted}
-use Rattle.tl_store.specs.Rows.{procedure_form, named_form, AreLatest}
+use Rattle.tl_rows.specs.Rows.{procedure_form, named_form, AreLatest}
 use Rattle.tl_store.proofs.procedures.procedures_of.Given as goal
 
 -- the procedures so far are those of the first rows

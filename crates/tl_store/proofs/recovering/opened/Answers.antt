@@ -1,6 +1,6 @@
 use Rattle.std.proofs.Common.{◌≡◌, ◌∙◌, length, sym, ap}
 use Rattle.std.proofs.lemmas.List.{length-map}
-use Rattle.tl_store.specs.Rows.{fields_in}
+use Rattle.tl_rows.specs.Rows.{fields_in}
 use Rattle.tl_store.proofs.recovering.opened.Goals as goal
 
 pub returns-in-Ok-clause-again : goal.returns-in-Ok-clause-again

@@ -1,5 +1,5 @@
 use Rattle.std.proofs.Common.{rules, ◌≡◌, ◌∙◌, ap, sym, Some, IsTrue, string_bytes}
-use Rattle.tl_store.specs.Rows.{numbers_in}
+use Rattle.tl_rows.specs.Rows.{numbers_in}
 use Rattle.tl_store.proofs.replies.check_reply.Goals as goal
 
 pub returns-clause-right : goal.returns-clause-right

@@ -1,5 +1,5 @@
 use Rattle.std.proofs.Common.{◌≡◌, map, take}
-use Rattle.tl_store.specs.Rows.{parent_in}
+use Rattle.tl_rows.specs.Rows.{parent_in}
 use Rattle.tl_store.proofs.tree.parents_of.Given as goal
 
 -- the parents so far are those of the first nodes

@@ -1,5 +1,5 @@
 use Rattle.std.proofs.Common.{◌≡◌, map, take}
-use Rattle.tl_store.specs.Rows.{fields_in}
+use Rattle.tl_rows.specs.Rows.{fields_in}
 use Rattle.tl_store.proofs.tree.records_of.Given as goal
 
 -- the records so far are those of the first rows

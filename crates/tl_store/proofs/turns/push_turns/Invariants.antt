@@ -1,6 +1,6 @@
 use Rattle.std.proofs.Common.{◌≡◌, ◌++◌, ◌*◌, ◌<◌, ℕ, List, take}
 use Rattle.std.specs.Prelude.{All}
-use Rattle.tl_store.specs.Rows.{turn_bytes}
+use Rattle.tl_rows.specs.Rows.{turn_bytes}
 use Rattle.tl_store.proofs.turns.push_turns.Given as goal
 
 -- the turns of the first bytes were added

@@ -1,6 +1,6 @@
 use Rattle.std.proofs.Common.{◌≡◌, ◌<◌, take}
 use Rattle.std.specs.Prelude.{All}
-use Rattle.tl_store.specs.Rows.{turn_bytes, all_turn_bytes}
+use Rattle.tl_rows.specs.Rows.{turn_bytes, all_turn_bytes}
 use Rattle.tl_store.proofs.turns.turns_of.Given as goal
 
 -- the turns so far are those of the first rows

@@ -1,6 +1,6 @@
 use Rattle.std.proofs.Common.{rules, ◌≡◌, Some, option_map, string_bytes}
 use Rattle.tl_keys.specs.Kept.{KeptValue}
-use Rattle.tl_store.specs.Rows.{numbers_in}
+use Rattle.tl_rows.specs.Rows.{numbers_in}
 use Rattle.tl_store_commands.proofs.RememberingLemmas.{one_more}
 use Rattle.tl_store_commands.proofs.remembering.remember_call.Goals as goal
 

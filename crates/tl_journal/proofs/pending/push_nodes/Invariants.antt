@@ -1,7 +1,0 @@
-use Rattle.std.proofs.Common.{◌≡◌, ◌++◌, map, take}
-use Rattle.tl_journal.specs.Pendings.{node_of}
-use Rattle.tl_journal.proofs.pending.push_nodes.Given as goal
-
--- the rows of the first parents were added
-abbrev pub invariant-loop-parent : goal.invariant-loop-parent
-invariant-loop-parent l = l.rows.items ≡ l.initial.rows.items ++ map (node_of l.epoch) (take l.parent-index l.parents)

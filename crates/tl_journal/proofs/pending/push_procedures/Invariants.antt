@@ -1,9 +1,0 @@
-use Rattle.std.proofs.Common.{◌≡◌, ◌++◌, map, take}
-use Rattle.tl_journal.specs.Rows.{procedure_form}
-use Rattle.tl_journal.specs.Pendings.{new_form}
-use Rattle.tl_journal.proofs.pending.push_procedures.Given as goal
-
--- the rows of the first procedures were added
-abbrev pub invariant-loop-new : goal.invariant-loop-new
-invariant-loop-new l =
-    map procedure_form l.rows.items ≡ map procedure_form l.initial.rows.items ++ map new_form (take l.new-index l.procedures)

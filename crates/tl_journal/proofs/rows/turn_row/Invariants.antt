@@ -1,7 +1,0 @@
-use Rattle.std.proofs.Common.{◌≡◌, take}
-use Rattle.tl_journal.specs.Rows.{turn_bytes}
-use Rattle.tl_journal.proofs.rows.turn_row.Given as goal
-
--- the bytes so far are those of the first turns
-abbrev pub invariant-loop-turn : goal.invariant-loop-turn
-invariant-loop-turn l = l.calls.items ≡ turn_bytes (take l.turn-index l.turns)

@@ -1,0 +1,4 @@
+mod Own
+mod Adding
+mod Step
+mod Through

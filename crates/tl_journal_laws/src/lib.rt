@@ -1,0 +1,4 @@
+//! What a journal has pending, as news of a core.
+#![tactic(auto)]
+
+pub mod laws;

@@ -1,7 +1,0 @@
-use Rattle.std.proofs.Common.{◌≡◌, map, take}
-use Rattle.tl_store.specs.Rows.{fields_in}
-use Rattle.tl_store.proofs.tree.record_rows.Given as goal
-
--- the rows so far are those of the first records
-abbrev pub invariant-loop-fields : goal.invariant-loop-fields
-invariant-loop-fields l = map fields_in l.rows.items ≡ take l.fields-index l.records

@@ -1,0 +1,14 @@
+pub mod Put
+pub mod Stay
+pub mod Grow
+pub mod Columns
+pub mod Going
+pub mod Replaced
+pub mod Leading
+pub mod Seal
+pub mod Replace
+pub mod Widen
+pub mod Joined
+pub mod Again
+pub mod Closed
+pub mod Founded
