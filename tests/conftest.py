@@ -14,7 +14,7 @@ HERE = pathlib.Path(__file__).resolve().parent
 sys.dont_write_bytecode = True
 sys.path[:0] = [str(HERE), str(HERE.parent / "clients/python")]
 
-from running import TOP, Tests, fixture, program_named  # noqa: E402
+from running import TOP, Tests, fixture, limited, program_named  # noqa: E402
 from serving import Server  # noqa: E402
 
 
@@ -54,8 +54,7 @@ def server(tests):
     with contextlib.ExitStack() as started:
         def start(*words, **named):
             it = Server(tests, *words, **named)
-            started.callback(it.process.communicate)
-            started.callback(it.process.kill)
+            started.callback(it.kill)
             return it
 
         yield start
@@ -64,7 +63,8 @@ def server(tests):
 def pytest_pyfunc_call(pyfuncitem):
     """Runs a test for pytest, and has it fail where one of its checks did."""
     given = {name: pyfuncitem.funcargs[name] for name in pyfuncitem._fixtureinfo.argnames}
-    pyfuncitem.obj(**given)
+    with limited(pyfuncitem.name):
+        pyfuncitem.obj(**given)
     if "tests" in given:
         given["tests"].judge()
     return True

@@ -4,8 +4,8 @@ A refusal is made by a small C library in the place of `malloc`, which is compil
 """
 
 import os
-import shutil
-import subprocess
+
+from running import compiled
 
 # Refuses the allocation whose number REFUSE gives, counted from 1, and each one behind it where REFUSE_ALL is set. It tells
 # on the file descriptor 99 whether it came to that.
@@ -46,14 +46,10 @@ int posix_memalign(void **to, size_t align, size_t size) {
 
 
 def library(folder):
-    """The C library that refuses allocations, or None where there is no compiler."""
-    compiler = os.environ.get("CC", "cc")
-    if shutil.which(compiler) is None:
-        return None
-    source, built = folder / "refusing.c", folder / "refusing.so"
+    """The C library that refuses allocations; what needs it is skipped where there is no compiler."""
+    source = folder / "refusing.c"
     source.write_text(SOURCE)
-    subprocess.run([compiler, "-shared", "-fPIC", "-O1", "-o", built, source, "-ldl"], check=True)
-    return built
+    return compiled(source, folder)
 
 
 def refused(built, number, all_from, run):

@@ -3,24 +3,54 @@
 A test checks many things, and goes on where one of them fails. `tests/run` counts the checks. Under pytest a test with a check that failed has failed.
 """
 
+import collections
 import contextlib
+import ctypes
+import faulthandler
 import functools
 import os
 import pathlib
+import random
 import re
 import resource
 import shutil
+import signal
 import socket
 import subprocess
 import sys
 import tempfile
+import threading
+import time
 import unittest
 
+import known_defects
+
 TOP = pathlib.Path(__file__).resolve().parent.parent
+# After so many seconds a test hangs, and after half of them an answer that doesn't come. A machine that is busy with other work takes long.
+LIMIT = float(os.environ.get("TREEDB_TEST_SECONDS", "600"))
+PATIENCE = LIMIT / 2
+# How many seconds a test that was cut off has to end what it began.
+LAST_WORDS = 60
+# The tools that this machine shall have: what needs one of them fails where it isn't there.
+REQUIRED = set(filter(None, os.environ.get("TREEDB_REQUIRE", "").split(",")))
+# The names under which a tool may be there.
+TOOLS = {"cc": [os.environ.get("CC", "cc")], "chromium": ["chromium", "chromium-browser", "google-chrome"]}
+DIES_WITH_ITS_PARENT = 1
+PRCTL = getattr(ctypes.CDLL(None), "prctl", None)
 
 if "_pytest" in sys.modules:
-    from pytest import fixture
+    from pytest import fixture, mark
+
+    parametrize = mark.parametrize
 else:
+    def parametrize(name, values, ids):
+        """Has a test run once with each of these values for the parameter of that name. An id stands behind the test's name, as in `requests[a call]`."""
+        def mark(test):
+            test.rows = name, dict(zip(ids, values, strict=True))
+            return test
+
+        return mark
+
     def fixture(made=None, *, scope="function"):
         """Marks a function as one that makes what the tests of its name are given, for `tests/run`."""
         if made is None:
@@ -41,9 +71,117 @@ def program_named(variable, crate, built_by):
     return program
 
 
+class Hangs(Exception):
+    """Something didn't come to its end in time."""
+
+
 def skip(reason):
     """Leaves the rest of a test out, and says why."""
     raise unittest.SkipTest(reason)
+
+
+def tool(name):
+    """The path of a tool. What needs it is skipped where there is none, or fails where `--require` names it."""
+    for each in TOOLS.get(name, [name]):
+        if path := shutil.which(each):
+            return path
+    if name in REQUIRED:
+        raise MissingProgram(f"there is no {name}, which this machine shall have")
+    return skip(f"there is no {name}")
+
+
+def compiled(source, folder):
+    """The library that a source in C makes, which a program may load before its own; what needs it is skipped where there is no compiler."""
+    built = pathlib.Path(folder, source.stem + ".so")
+    subprocess.run([tool("cc"), "-shared", "-fPIC", "-O1", "-Wall", "-o", built, source, "-ldl", "-lpthread"], check=True)
+    return built
+
+
+def files_of_repository(*patterns):
+    """Its files of these patterns, without what is built; also where it is no checkout, or another user's."""
+    words = ["git", "-c", "safe.directory=*", "ls-files", "--cached", "--others", "--exclude-standard", *patterns]
+    listed = subprocess.run(words, cwd=TOP, capture_output=True, text=True, check=False).stdout.splitlines() if shutil.which("git") else []
+    built = {".git", "__pycache__", "node_modules", "out", "target"}
+    return [TOP / name for name in listed if (TOP / name).is_file()] or [path for pattern in patterns or ["*"] for path in TOP.rglob(pattern) if path.is_file() and not built & {*path.parts}]
+
+
+@functools.cache
+def seed():
+    """The seed of what this run leaves to chance. It is printed when it is asked for first, and TREEDB_SEED gives it again."""
+    number = int(os.environ.get("TREEDB_SEED", time.time_ns() % 1_000_000))
+    print(f"what is left to chance: TREEDB_SEED={number}")
+    return number
+
+
+def chance(name):
+    """The chances of that name: with the same seed, the same."""
+    return random.Random(f"{seed()} {name}")
+
+
+@contextlib.contextmanager
+def limited(name):
+    """What is done within comes to its end in time, or `Hangs` is raised there and standard error says where each thread is. If even that doesn't end it, the whole run ends."""
+    def cut_off(*_):
+        faulthandler.dump_traceback(sys.__stderr__, all_threads=True)
+        raise Hangs(f"{name} hadn't ended after {LIMIT:.0f} s")
+
+    before = signal.signal(signal.SIGALRM, cut_off)
+    signal.setitimer(signal.ITIMER_REAL, LIMIT)
+    faulthandler.dump_traceback_later(LIMIT + LAST_WORDS, exit=True, file=sys.__stderr__)
+    try:
+        yield
+    finally:
+        faulthandler.cancel_dump_traceback_later()
+        signal.setitimer(signal.ITIMER_REAL, 0)
+        signal.signal(signal.SIGALRM, before)
+
+
+def until(holds, what, patience=None):
+    """Waits until that holds."""
+    end = time.monotonic() + (patience or PATIENCE)
+    while not holds():
+        if time.monotonic() > end:
+            raise Hangs(f"after {patience or PATIENCE:.0f} s: {what}")
+        time.sleep(0.01)
+
+
+class Threads:
+    """Calls on threads of their own, which end with the run."""
+
+    def __init__(self, *works):
+        self.threads = [threading.Thread(target=self.work, args=work, daemon=True) for work in works]
+        self.failed = []
+        for thread in self.threads:
+            thread.start()
+
+    def work(self, function, *arguments):
+        try:
+            function(*arguments)
+        except Exception as reason:
+            self.failed.append(reason)
+
+    def join(self):
+        """Waits for all, and raises what one of them raised."""
+        end = time.monotonic() + PATIENCE
+        for thread in self.threads:
+            thread.join(max(end - time.monotonic(), 0))
+        if any(thread.is_alive() for thread in self.threads):
+            raise Hangs(f"a thread of {len(self.threads)} hadn't ended after {PATIENCE:.0f} s")
+        if self.failed:
+            raise self.failed[0]
+
+
+def before_program(memory=None):
+    """What a process does before it becomes the program: it ends with the one that started it, and may have so many bytes of addresses. Signals mean to it what they do in a terminal."""
+    def prepare():
+        for each in (signal.SIGHUP, signal.SIGINT, signal.SIGTERM):
+            signal.signal(each, signal.SIG_DFL)
+        if PRCTL:
+            PRCTL(DIES_WITH_ITS_PARENT, signal.SIGKILL)
+        if memory:
+            resource.setrlimit(resource.RLIMIT_AS, (memory, memory))
+
+    return prepare
 
 
 @contextlib.contextmanager
@@ -70,15 +208,18 @@ class Run:
 
 
 class Counts:
-    """How many checks passed, failed and were skipped."""
+    """How many checks passed, failed and were skipped, and how often each known defect was met."""
 
     def __init__(self):
         self.passed = self.failed = self.skipped = 0
+        self.known = collections.Counter()
 
     def check(self, name, holds, found):
         """Counts a check, and tells what was found if it failed."""
         if holds:
             self.passed += 1
+        elif row := known_defects.row_of(name):
+            self.known[row] += 1
         else:
             self.failed += 1
             print(f"failed: {name}: {found!r}")
@@ -117,9 +258,8 @@ class Tests(Counts):
     def run(self, *words, out=None, err=None, env=None, pass_fds=(), memory=None):
         """Runs the program with these words, in so many bytes of addresses. A stream that has a path goes there, and else into the answer."""
         streams = [open(path, "wb") if path else subprocess.PIPE for path in (out, err)]
-        limited = functools.partial(resource.setrlimit, resource.RLIMIT_AS, (memory, memory)) if memory else None
         done = subprocess.run([self.program, *words], cwd=self.folder, stdin=subprocess.DEVNULL, stdout=streams[0], stderr=streams[1],
-                              env=env, pass_fds=pass_fds, preexec_fn=limited, timeout=600, check=False)
+                              env=env, pass_fds=pass_fds, preexec_fn=before_program(memory), timeout=PATIENCE, check=False)
         for stream in streams:
             if stream != subprocess.PIPE:
                 stream.close()
@@ -147,7 +287,7 @@ def free_port():
 
 def asked(port, lines):
     """What is answered to these lines, on a connection of their own."""
-    with socket.create_connection(("127.0.0.1", port), timeout=30) as peer:
+    with socket.create_connection(("127.0.0.1", port), timeout=PATIENCE) as peer:
         peer.sendall(lines)
         peer.shutdown(socket.SHUT_WR)
         answers = b""
@@ -171,5 +311,6 @@ def main(name, groups):
         tests = Tests(program, pathlib.Path(folder))
         shutil.copytree(TOP / "examples", tests.path("examples"))
         for group in chosen:
-            group(tests)
+            with limited(group.__name__):
+                group(tests)
         return tests.end()

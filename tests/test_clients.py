@@ -15,7 +15,7 @@ import tempfile
 import unittest
 
 import treedb
-from running import TOP, fixture, raises, skip
+from running import PATIENCE, TOP, fixture, raises, skip, tool
 
 PYTHON, JAVASCRIPT = TOP / "clients/python", TOP / "clients/javascript"
 ADD = (TOP / "examples/add.asm").read_text()
@@ -42,6 +42,7 @@ def test_the_tests_of_the_client_in_python(tests):
     suite = unittest.defaultTestLoader.discover(str(PYTHON / "tests"), top_level_dir=str(PYTHON))
     with open(os.devnull, "w") as nowhere:
         result = unittest.TextTestRunner(stream=nowhere, verbosity=0, warnings="default").run(suite)
+    tests.check("there are tests", result.testsRun > len(list((PYTHON / "tests").glob("test_*.py"))), result)
     failures = result.failures + result.errors
     for test, trace in failures:
         tests.check(str(test), False, trace)
@@ -56,7 +57,7 @@ def test_the_tests_of_the_client_in_python(tests):
 
 def test_procedures_calls_and_batches(tests, server):
     it = server(tree=THREE, connections=2)
-    with treedb.Client("127.0.0.1", it.port, timeout=60) as db:
+    with treedb.Client("127.0.0.1", it.port, timeout=PATIENCE) as db:
         tests.same("the bounds", db.register("add", ADD), treedb.Bounds(steps=7, locks=1, emits=1))
         tests.same("a call", db.call("add", 2, 3), treedb.Answer(0, [10], 0))
         batch = db.batch([("add", 0, 1), ("none",), ("add", 1, 4)], workers=2)
@@ -72,7 +73,7 @@ def test_procedures_calls_and_batches(tests, server):
 
 
 def test_refusals(tests, server):
-    with treedb.Client(port=server(tree=THREE, connections=1).port, timeout=60) as db:
+    with treedb.Client(port=server(tree=THREE, connections=1).port, timeout=PATIENCE) as db:
         db.register("add", ADD)
         with raises(treedb.Refused, r"\[611\].*registered before") as refused:
             db.register("add", ADD)
@@ -88,7 +89,7 @@ def test_refusals(tests, server):
 
 
 def test_reading(tests, server):
-    with treedb.Client(port=server(tree=THREE, connections=1).port, timeout=60) as db:
+    with treedb.Client(port=server(tree=THREE, connections=1).port, timeout=PATIENCE) as db:
         tests.same("a record", db.read(2), [7, 0, 0, 0, 0, 0, 0, 0])
         tests.same("records", [record[0] for record in db.read_all([0, 1, 2] * 100)], [0, 0, 7] * 100)
         with raises(IndexError, "no node 3"):
@@ -97,18 +98,18 @@ def test_reading(tests, server):
 
 def test_texts_of_the_language(tests, server):
     async def run(port):
-        async with await treedb.AsyncClient.connect(port=port, timeout=60) as db:
+        async with await treedb.AsyncClient.connect(port=port, timeout=PATIENCE) as db:
             return [*await db.register_text("proc one() { emit 1; }")], (await db.call("one")).reply
 
     it = server(tree="examples/stock/tree.json", connections=None)
-    with treedb.Client(port=it.port, timeout=60) as db:
+    with treedb.Client(port=it.port, timeout=PATIENCE) as db:
         bounds = db.register_file(tests.path("examples/stock/stock.tdb"))
         tests.same("the locks", {name: each.locks for name, each in bounds.items()}, {"shift": 5, "transfer": 9, "visit": 4, "stock": 2113})
         tests.same("a reply", db.call("shift", 10, 5, 0, 1).reply, [10])
         with raises(treedb.Refused, r"\[281, 2, 10\] the node isn't held.*\(line 2, column 10\)"):
             db.register_text("field pieces = 0; proc two(at) { lock n = node(at); free n;\n    emit n.pieces; }")
     tests.same("asyncio's", asyncio.run(run(it.port)), (["one"], [1]))
-    with treedb.Client(port=server(connections=1).port, timeout=60) as db, raises(treedb.Refused, r"\[901\]"):
+    with treedb.Client(port=server(connections=1).port, timeout=PATIENCE) as db, raises(treedb.Refused, r"\[901\]"):
         db.register_file(tests.path("examples/stock/stock.tdb"))
 
 
@@ -150,7 +151,7 @@ def test_files_of_procedures(tests, server):
         tests.run("asm", f"{name}.asm", f"{name}.tlp")
     for name in ("every.tlp", "last.tlp", "examples/add.tlp", "examples/walk.tlp"):
         tests.same(f"the text of {name}", treedb.texts.assembler_text(tests.bytes(name)), tests.run("dis", name).out)
-    with treedb.Client(port=server(tree=THREE, connections=1).port, timeout=60) as db:
+    with treedb.Client(port=server(tree=THREE, connections=1).port, timeout=PATIENCE) as db:
         tests.same("a container", db.register_file(tests.path("examples/add.tlp")), {"add": treedb.Bounds(steps=7, locks=1, emits=1)})
         tests.same("an assembler text", [*db.register_file(tests.path("examples/add.asm"), "more")], ["more"])
         tests.same("calls", db.batch([("add", 2, 1), ("more", 2, 1)]).replies(), [[8], [9]])
@@ -158,7 +159,7 @@ def test_files_of_procedures(tests, server):
 
 def test_a_client_that_seals_on_a_server_that_lasts(tests, server):
     it = server(connections=None)
-    with treedb.Client(port=it.port, timeout=60, seals=True) as db:
+    with treedb.Client(port=it.port, timeout=PATIENCE, seals=True) as db:
         db.register("add", ADD)
         replies = [reply for _ in range(20) for reply in db.batch([("add", 0, 1)] * 241).replies()]
         tests.same("the replies", replies, [[6 + call] for call in range(4_820)])
@@ -169,26 +170,25 @@ def test_a_client_that_seals_on_a_server_that_lasts(tests, server):
 
 def test_keys(tests, server):
     it = server("--store", "things.db", connections=None)
-    with treedb.Client(port=it.port, timeout=60) as db:
+    with treedb.Client(port=it.port, timeout=PATIENCE) as db:
         db.register("add", ADD)
         first, again = db.call("add", 0, 1, key="one"), db.call("add", 0, 1, key="one")
         tests.same("a call, and the same again", (first, again, type(first), type(again)), (treedb.Answer(0, [6]), treedb.Recalled(0, [6], 0), treedb.Answer, treedb.Recalled))
-    it.process.kill()
-    it.process.communicate()
+    it.kill()
     it = server("--store", "things.db", connections=None, tree=None)
-    with treedb.Client(port=it.port, timeout=60) as db:
+    with treedb.Client(port=it.port, timeout=PATIENCE) as db:
         tests.same("after the next start", (db.call("add", 0, 1, key="one"), db.call("add", 0, 1, key="two")), (treedb.Recalled(0, [6], 0), treedb.Answer(0, [7])))
-    with treedb.Client(port=server(connections=None).port, timeout=60) as db, raises(treedb.Refused, r"\[1015\].*no store"):
+    with treedb.Client(port=server(connections=None).port, timeout=PATIENCE) as db, raises(treedb.Refused, r"\[1015\].*no store"):
         db.call("add", 0, 1, key="one")
 
 
 def test_unix_sockets(tests, server):
     async def run(path):
-        async with await treedb.AsyncClient.connect(path=path, timeout=60) as db:
+        async with await treedb.AsyncClient.connect(path=path, timeout=PATIENCE) as db:
             return await db.call("add", 0, 1)
 
     it, path, control = server(connections=None, port="socket", control="control", tree=THREE), tests.path("socket"), tests.path("control")
-    with treedb.Client(path=path, timeout=60) as db:
+    with treedb.Client(path=path, timeout=PATIENCE) as db:
         db.register("add", ADD)
         tests.same("a call", db.call("add", 0, 1).reply, [1])
         tests.same("the status", treedb.status(path=control), treedb.Status(epoch=0, generation=0, calls=1, connections=1, nodes=3, procedures=1))
@@ -199,7 +199,7 @@ def test_unix_sockets(tests, server):
 
 def test_status(tests, server):
     it = server(connections=None)
-    with treedb.Client(port=it.port, timeout=60) as db:
+    with treedb.Client(port=it.port, timeout=PATIENCE) as db:
         db.register("add", ADD)
         db.batch([("add", 0, 1)] * 3)
         tests.same("the status", treedb.status(port=it.control), treedb.Status(0, 0, 3, 1, 1, 1))
@@ -209,7 +209,7 @@ def test_status(tests, server):
 
 def test_asyncio(tests, server):
     async def run(port):
-        async with await treedb.AsyncClient.connect(port=port, timeout=300) as db:
+        async with await treedb.AsyncClient.connect(port=port, timeout=PATIENCE) as db:
             await db.register("add", ADD)
             answers = await asyncio.gather(*(db.call("add", 0, 1) for _ in range(5_000)))
             batches = await asyncio.gather(*(db.batch([("add", 0, 1)] * 100) for _ in range(20)))
@@ -220,7 +220,7 @@ def test_asyncio(tests, server):
 
 
 def test_growth(tests, server):
-    with treedb.Client(port=server(tree=THREE, connections=None).port, timeout=60) as db:
+    with treedb.Client(port=server(tree=THREE, connections=None).port, timeout=PATIENCE) as db:
         names = treedb.Names([0, 0, 1], ["", "north", "aisle 1"])
         tests.same("nodes on two levels", db.grow(names, ["north/aisle 2/shelf 1", "south"]), [5, 3])
         tests.same("more nodes", db.grow(names, ["west", "north/aisle 3"]), [6, 7])
@@ -275,27 +275,22 @@ SAID = [{"emits": 1, "locks": 1, "steps": 7}, [str(FIRST)], [[1, str(FIRST + 1),
         [str(FIRST + 3)] + ["0"] * 7, 0, 1, True]
 
 
-def needed(program):
-    if shutil.which(program) is None:
-        skip(f"there is no {program}")
-
-
 def said_on_a_server(server, folder):
     """What the script says, run by Node.js in this folder."""
     script = pathlib.Path(folder, "script.mjs")
     script.write_text(ON_A_SERVER)
-    done = subprocess.run(["node", script, str(server(connections=1).port), TOP / "examples/add.asm"], capture_output=True, text=True, timeout=120, check=False)
+    done = subprocess.run(["node", script, str(server(connections=1).port), TOP / "examples/add.asm"], capture_output=True, text=True, timeout=PATIENCE, check=False)
     return json.loads(done.stdout) if done.returncode == 0 else done.stderr
 
 
 def test_the_tests_of_the_client_for_node():
-    needed("node")
-    done = subprocess.run(["node", "--test"], cwd=JAVASCRIPT, capture_output=True, text=True, timeout=120, check=False)
+    tool("node")
+    done = subprocess.run(["node", "--test"], cwd=JAVASCRIPT, capture_output=True, text=True, timeout=PATIENCE, check=False)
     assert done.returncode == 0, done.stdout + done.stderr
 
 
 def test_the_client_for_node_on_a_server(tests, server):
-    needed("node")
+    tool("node")
     tests.path("node_modules").mkdir()
     tests.path("node_modules/treedb-client").symlink_to(JAVASCRIPT)
     tests.same("what it says", said_on_a_server(server, tests.folder), SAID)
@@ -316,7 +311,7 @@ console.log(JSON.stringify(said));
 
 
 def test_files_of_procedures_in_node(tests, server):
-    needed("node")
+    tool("node")
     tests.path("node_modules").mkdir(exist_ok=True)
     if not tests.path("node_modules/treedb-client").exists():
         tests.path("node_modules/treedb-client").symlink_to(JAVASCRIPT)
@@ -325,11 +320,11 @@ def test_files_of_procedures_in_node(tests, server):
     shown = subprocess.run(["node", "--input-type=module", "-e", f"""
         import {{ readFileSync }} from "node:fs";
         import {{ assemblerText }} from "{JAVASCRIPT}/containers.mjs";
-        process.stdout.write(assemblerText(readFileSync("every.tlp")));"""], cwd=tests.folder, capture_output=True, text=True, timeout=120, check=False)
+        process.stdout.write(assemblerText(readFileSync("every.tlp")));"""], cwd=tests.folder, capture_output=True, text=True, timeout=PATIENCE, check=False)
     tests.same("the text of a container", shown.stdout, tests.run("dis", "every.tlp").out)
     tests.path("files.mjs").write_text(FILES_ON_A_SERVER)
     files = ["examples/stock/stock.tdb", "examples/add.asm", "examples/walk.tlp"]
-    done = subprocess.run(["node", "files.mjs", str(server(tree="examples/stock/tree.json", connections=None).port), *files], cwd=tests.folder, capture_output=True, text=True, timeout=120, check=False)
+    done = subprocess.run(["node", "files.mjs", str(server(tree="examples/stock/tree.json", connections=None).port), *files], cwd=tests.folder, capture_output=True, text=True, timeout=PATIENCE, check=False)
     tests.same("what it says", done.stdout, json.dumps([["shift", "transfer", "visit", "stock"], ["add"], ["walk"], ["10"], [273, 1, 5]], separators=(",", ":")) + "\n")
 
 
@@ -349,7 +344,7 @@ class Packages:
 
     def done(self, *words, folder=None):
         """What a command prints, which has to succeed."""
-        done = subprocess.run(words, cwd=folder or self.folder, env=NO_INDEX | {"HOME": str(self.folder), "PATH": os.environ["PATH"]}, capture_output=True, text=True, timeout=300, check=False)
+        done = subprocess.run(words, cwd=folder or self.folder, env=NO_INDEX | {"HOME": str(self.folder), "PATH": os.environ["PATH"]}, capture_output=True, text=True, timeout=PATIENCE, check=False)
         assert done.returncode == 0, done.stdout + done.stderr
         return done.stdout
 
@@ -399,7 +394,7 @@ def test_the_folder(packages):
 
 
 def test_the_archive(tests, server, packages):
-    needed("npm")
+    tool("npm")
     folder = packages.folder / "node"
     folder.mkdir()
     packages.done("npm", "install", "--offline", "--no-audit", "--no-fund", packages.archive, folder=folder)

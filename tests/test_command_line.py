@@ -5,6 +5,7 @@ goes to standard output and what to standard error, what a file or a stream that
 the pages print what the pages say. Memory is refused by `refusing`; where there is no C compiler, that test is skipped.
 """
 
+import contextlib
 import errno
 import functools
 import json
@@ -16,7 +17,8 @@ import socket
 import subprocess
 
 import refusing
-from running import Run, asked, free_port, skip
+from running import asked, free_port
+from serving import LISTENING, Process
 
 TOP = pathlib.Path(__file__).resolve().parent.parent
 FULL = "/dev/full"
@@ -421,20 +423,14 @@ def served(tests, connections, *words, out=None):
     port = free_port()
     said = f"treedb: listening on 127.0.0.1:{port}\n"
     words = SERVE[:4] + [str(port), "--connections", str(len(connections)), *words]
-    stream = open(out, "wb") if out else subprocess.PIPE
-    with subprocess.Popen([tests.program, *words], cwd=tests.folder, stdin=subprocess.DEVNULL, stdout=stream,
-                          stderr=subprocess.PIPE) as server:
-        try:
-            first = server.stderr.readline().decode()
-            answers = [asked(port, lines) for lines in connections] if first == said else []
-            printed, more = server.communicate(timeout=60)
-        finally:
-            server.kill()
-    if out:
-        stream.close()
-    run = Run(server.returncode, (printed or b"").decode(), first + more.decode())
-    tests.check(f"it says where it listens: {words}", first == said, run)
-    return run, answers, said
+    with open(out, "wb") if out else contextlib.nullcontext(subprocess.PIPE) as stream:
+        server = Process(tests.program, words, LISTENING, folder=tests.folder, out=stream)
+    try:
+        tests.check(f"it says where it listens: {words}", server.said == said, server.said)
+        answers = [asked(port, lines) for lines in connections]
+        return server.end(), answers, said
+    finally:
+        server.kill()
 
 
 def test_server(tests):
@@ -565,11 +561,12 @@ def test_long_trails(tests):
     run = tests.run("audit", "long.json", memory=12 * len(text))
     tests.check("a long trail in twelve bytes a byte", run.status == 0 and run.out == order, run)
     # So is each trail of a chain.
-    chain = json.dumps([long_trail(calls // 2)] * 2, separators=(",", ":"))
-    tests.path("long.json").write_text(chain)
-    order = json.dumps([*range(calls // 2)], separators=(",", ":"))
-    run = tests.run("audit", "long.json", memory=12 * len(chain))
-    tests.check("a long chain in twelve bytes a byte", run.status == 0 and run.out == f'{{"orders":[{order},{order}]}}\n', run)
+    for trails in (1, 2):
+        chain = json.dumps([long_trail(calls // trails)] * trails, separators=(",", ":"))
+        tests.path("long.json").write_text(chain)
+        orders = json.dumps({"orders": [[*range(calls // trails)]] * trails}, separators=(",", ":")) + "\n"
+        run = tests.run("audit", "long.json", memory=12 * len(chain))
+        tests.check(f"a long chain of {trails} in twelve bytes a byte", run.status == 0 and run.out == orders, run)
 
 
 def bounds_table(tests):
@@ -666,8 +663,6 @@ def is_same(run, plain):
 
 def test_memory(tests):
     library = refusing.library(tests.folder)
-    if library is None:
-        skip("there is no C compiler, so no run refuses memory")
     before(tests)
     for words in COMMANDS:
         plain = tests.run(*words)

@@ -5,12 +5,11 @@ next server begins with the tree that was printed. On a third server all 256 epo
 """
 
 import json
-import threading
 from unittest import mock
 
 import treedb
 import treedb.client
-from running import TOP
+from running import PATIENCE, TOP, Threads
 
 TREE = {"parents": [0], "records": [[5, 0, 0, 0, 0, 0, 0, 0]]}
 ADD = (TOP / "examples/add.asm").read_text()
@@ -19,7 +18,7 @@ BATCHES, SIZE = 70, 32
 
 
 def adds(port, answers):
-    with treedb.Client(port=port, timeout=60, seals=True) as db:
+    with treedb.Client(port=port, timeout=PATIENCE, seals=True) as db:
         for _ in range(BATCHES):
             answers += db.batch([("add", 0, 1)] * SIZE, workers=2)
         answers.append(db.call("add", 0, 1))
@@ -37,14 +36,10 @@ def test_two_servers(tests, server, tree):
 
 def two_clients(tests, server):
     """Two clients make 4,482 calls, and nobody has to say where an epoch ends. Returns the tree that is left."""
-    with treedb.Client(port=server.port, timeout=60) as db:
+    with treedb.Client(port=server.port, timeout=PATIENCE) as db:
         db.register("add", ADD)
     answers = [[], []]
-    threads = [threading.Thread(target=adds, args=(server.port, own)) for own in answers]
-    for thread in threads:
-        thread.start()
-    for thread in threads:
-        thread.join()
+    Threads(*[(adds, server.port, own) for own in answers]).join()
     orders, left = server.end().out.splitlines()
     both = [answer for own in answers for answer in own]
     tests.same("each call is answered", [answer for answer in both if not is_answer(answer)], [])
@@ -66,7 +61,7 @@ def two_clients(tests, server):
 
 def hand_over(tests, server, tree):
     """The next server goes on with the tree that was printed, and its file shows that it does."""
-    with treedb.Client(port=server.port, timeout=60, seals=True) as db:
+    with treedb.Client(port=server.port, timeout=PATIENCE, seals=True) as db:
         db.register("add", ADD)
         answer = db.call("add", 0, 1)
     printed = server.end().out.splitlines()
@@ -80,7 +75,7 @@ def hand_over(tests, server, tree):
 def test_all_epochs(tests, server, tree):
     """255 seals, and the last epoch is filled: the client that seals says that there is none left."""
     it = server("--trail", "third.json", connections=1, tree=tree(TREE))
-    with mock.patch.object(treedb.client, "PATIENCE", 0.2), treedb.Client(port=it.port, timeout=60, seals=True) as db:
+    with mock.patch.object(treedb.client, "PATIENCE", 0.2), treedb.Client(port=it.port, timeout=PATIENCE, seals=True) as db:
         db.register("add", ADD)
         tests.same("the seals", [db.seal() for _ in range(255)], list(range(255)))
         answers = [answer for _ in range(17) for answer in db.batch([("add", 0, 1)] * 241)]

@@ -4,13 +4,13 @@ import copy
 import json
 
 DRIVE = ["drive", "--tree", "examples/fork.json", "--trail", "trail.json", "examples/turns.json"]
-TEN, ELEVEN, TWELVE = ([value, 0, 0, 0, 0, 0, 0, 0] for value in (10, 11, 12))
+ZERO, TEN, ELEVEN, TWELVE = ([value, 0, 0, 0, 0, 0, 0, 0] for value in (0, 10, 11, 12))
 
 
-def with_event(at, event):
-    """Changes a trail: that event stands in the place of the one of that number."""
+def with_event(at, *events):
+    """Changes a trail: these events stand in the place of as many from the one of that number on."""
     def change(trail):
-        trail["events"][at] = event
+        trail["events"][at:at + len(events)] = events
     return change
 
 
@@ -48,6 +48,7 @@ FAULTS = [
      "event 6 has call 1 lock node 2: it doesn't hold node 0, the parent, and only the first lock of a call may be at any node"),
     (with_event(3, ["f", 0, 2, ELEVEN]), [711, 3], "event 3 has call 0 free node 2: it doesn't hold that node"),
     (with_event(6, ["d", 1]), [711, 6], "event 6 ends call 1: it still holds node 1, and has to free it first"),
+    (with_event(3, ["f", 0, 0, ZERO], ["d", 0]), [711, 4], "event 4 ends call 0: it still holds node 1, and has to free it first"),
     (without_event(3), [712, 4], "event 4 has call 1 lock node 1: call 0 has held it since event 2, and has to free it first"),
     (with_event(5, ["l", 1, 1, TWELVE]), [713, 5],
      "event 5 has call 1 lock node 1: it finds [12,0,0,0,0,0,0,0], but [11,0,0,0,0,0,0,0] was left there, at event 3"),
@@ -115,6 +116,9 @@ def test_chain(tests):
     other = next_of(trail)
     del other["procs"][0]
     explained(tests, "a procedure less", [trail, other], [718, 1], "its procedures don't begin with all procedures of the trail before")
+    other = next_of(trail)
+    other["procs"][0][1] = other["procs"][1][1]
+    explained(tests, "another code", [trail, other], [718, 1], "its procedures don't begin with all procedures of the trail before")
     faulty = copy.deepcopy(trail)
     with_event(6, ["d", 1])(faulty)
     explained(tests, "a fault within", [faulty, next_of(trail)], [719, 0, 711, 6], "event 6 ends call 1: it still holds node 1, and has to free it first")

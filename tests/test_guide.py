@@ -7,14 +7,18 @@ and the next waits until the server's port is listening. A block that is fenced 
 of the page are other ones here, which are free. A link is one of Markdown's, or the name of a page in backticks.
 """
 
+import contextlib
+import os
 import pathlib
 import re
+import select
 import shutil
+import signal
 import subprocess
 import time
 from typing import NamedTuple
 
-from running import TOP, Found, free_port
+from running import PATIENCE, TOP, Found, Hangs, before_program, files_of_repository, free_port, until
 
 PORT, CONTROL = "7878", "7879"
 END = "the command has ended"
@@ -64,9 +68,7 @@ def is_listening(port):
 
 
 def wait_for(port):
-    end = time.monotonic() + 30
-    while not is_listening(port) and time.monotonic() < end:
-        time.sleep(0.01)
+    until(lambda: is_listening(port), f"nobody listens on {port}")
 
 
 def is_as_said(printed, wanted):
@@ -75,27 +77,32 @@ def is_as_said(printed, wanted):
 
 
 class Shell:
-    """One shell, to which commands go one after another."""
+    """One shell, to which commands go one after another. What it has begun in the background ends with it."""
 
     def __init__(self, folder):
-        self.process = subprocess.Popen(
-            ["bash", "--norc"], cwd=folder, text=True, stdin=subprocess.PIPE, stdout=subprocess.PIPE, stderr=subprocess.DEVNULL
-        )
+        self.process = subprocess.Popen(["bash", "--norc"], cwd=folder, stdin=subprocess.PIPE, stdout=subprocess.PIPE, stderr=subprocess.DEVNULL, start_new_session=True, preexec_fn=before_program())
 
     def run(self, command):
         """The lines that the command prints."""
-        self.process.stdin.write(f"{command}\nprintf '%s\\n' '{END}'\n")
+        self.process.stdin.write(f"{command}\nprintf '%s\\n' '{END}'\n".encode())
         self.process.stdin.flush()
-        lines = []
-        for line in self.process.stdout:
-            if line == END + "\n":
-                return lines
-            lines.append(line.removesuffix("\n"))
-        return lines + ["the shell has ended"]
+        printed, end = b"", time.monotonic() + PATIENCE
+        while not f"\n{printed.decode(errors='replace')}".endswith(f"\n{END}\n"):
+            if not select.select([self.process.stdout], [], [], max(end - time.monotonic(), 0))[0]:
+                raise Hangs(f"the command hadn't ended after {PATIENCE:.0f} s: {command}")
+            part = os.read(self.process.stdout.fileno(), 65536)
+            if not part:
+                return [*printed.decode().splitlines(), "the shell has ended"]
+            printed += part
+        return printed.decode().split("\n")[:-2]
 
     def end(self):
         self.process.stdin.close()
-        self.process.wait(timeout=60)
+        with contextlib.suppress(subprocess.TimeoutExpired):
+            self.process.wait(timeout=60)
+        with contextlib.suppress(ProcessLookupError):
+            os.killpg(self.process.pid, signal.SIGKILL)
+        self.process.wait()
 
 
 def tried(tests, page):
@@ -160,10 +167,16 @@ def test_definitions_stand_in_the_sources(tests):
     assert tests.passed, f"{page} has no definitions"
 
 
-def pages():
-    """The pages of the repository, without what is built."""
-    listed = subprocess.run(["git", "ls-files", "--cached", "--others", "--exclude-standard", "*.md"], cwd=TOP, capture_output=True, text=True, check=False).stdout.split()
-    return [TOP / page for page in listed if (TOP / page).is_file()] or [page for page in TOP.rglob("*.md") if "out" not in page.parts]
+def test_limits(tests):
+    """Each number of the page on limits is that of the constant that stands beside it."""
+    page = "docs/use/limits.md"
+    for what, numbers, constants in re.findall(r"^\| ([^|]+) \| ([^|]+) \| (`tl_[^|]+) \|", (TOP / page).read_text(), re.MULTILINE):
+        names = re.findall(r"`(tl_\w+)::(\w+)`", constants)
+        told = [int(number.replace(",", "")) for number in re.findall(r"\d[\d,]*\d|\d", numbers)][-len(names):]
+        for (crate, name), number in zip(names, told, strict=True):
+            found = [int(each) for path in (TOP / f"crates/{crate}/src").rglob("*.rt") for each in re.findall(rf"^pub const {name}: \w+ = ([\d_]+);", path.read_text(), re.MULTILINE)]
+            tests.same(f"{page}: {what}: {name}", found, [number])
+    assert tests.passed, f"{page} has no constants"
 
 
 def anchors(page):
@@ -192,7 +205,7 @@ def test_the_promises_by_crate_are_those_of_the_sources():
 
 def test_links(tests):
     """Each link of each page leads somewhere."""
-    for page in pages():
+    for page in files_of_repository("*.md"):
         text = re.sub(r"^(```.*?^```|    .*?)$", "", page.read_text(), flags=re.MULTILINE | re.DOTALL)
         targets = [target for target in re.findall(r"\]\(([^)\s]+)\)", re.sub(r"`[^`\n]*`", "", text)) if not leads(page, target)]
         names = [name for name in re.findall(r"`([\w./-]+\.md)`", text) if not is_there(page, name)]

@@ -6,6 +6,7 @@ import random
 import threading
 import time
 
+from running import PATIENCE, Threads
 from serving import ADD, LONG, Peer, serving
 from test_store import again, batch, call, kill, lines, made, reply, stored
 
@@ -56,6 +57,34 @@ def test_asked_again(tests):
     tests.check("the store is that of its calls", tests.run("audit", "again.db").status == 0, tests.run("audit", "again.db"))
 
 
+def test_no_reply(tests):
+    """A call whose reply is empty is run once too, also after a start."""
+    name, quiet = "quiet.db", "field value = 0; proc quiet(at, amount) { lock n = node(at); n.value += amount; }"
+    with made(tests, name) as server:
+        answers = told(server, ADD, json.dumps({"op": "register", "text": quiet}), *[once("q", 0, 1, procedure="quiet")] * 3, call(0, 0))[2:]
+        kill(server)
+    empty = {"call": 0, "reply": []}
+    tests.check("a call without a reply", [json.loads(each) for each in answers] == [empty, {**empty, "stored": 0}, {**empty, "stored": 0}, json.loads(reply(1, 6))], answers)
+    with again(tests, name) as server:
+        answers = told(server, once("q", 0, 1, procedure="quiet"), call(0, 0))
+    tests.check("after a kill", answers == [lines({"call": 0, "reply": [], "stored": 0}), reply(0, 6)], answers)
+
+
+def test_beside_calls_without_a_key(tests):
+    """A start finds the keys of epochs that have calls without one, too: of the epoch that a kill left open, and of one that was sealed."""
+    name = "beside.db"
+    asked = [call(0, 1), once("one", 0, 2), call(0, 4), once("two", 0, 8), batch(16, 32)]
+    with made(tests, name) as server:
+        told(server, ADD, *asked, json.dumps({"op": "seal"}), once("three", 0, 64), call(0, 128))
+        kill(server)
+    wanted = [recalled(1, 8, 0), recalled(3, 20, 0), recalled(0, 132, 1), reply(0, 260)]
+    for number in range(2):
+        with again(tests, name) as server:
+            answers = told(server, once("one", 0, 2), once("two", 0, 8), once("three", 0, 64), call(0, 0))
+            kill(server)
+        tests.check(f"start {number}", answers == wanted, answers)
+
+
 def test_after_a_kill(tests):
     """A key is found again after each start, under the store's numbers."""
     name = "killed.db"
@@ -84,15 +113,11 @@ def test_at_once(tests):
 
         def ask():
             peer = Peer(server.port)
-            together.wait()
+            together.wait(timeout=PATIENCE)
             answers.append(json.loads(peer.ask(once("long", procedure="long"))))
             peer.close()
 
-        callers = [threading.Thread(target=ask) for _ in range(CALLERS)]
-        for caller in callers:
-            caller.start()
-        for caller in callers:
-            caller.join()
+        Threads(*[(ask,)] * CALLERS).join()
         server.stop()
         tests.check("the end", server.end().status == 0, server.said)
     called = [answer for answer in answers if "stored" not in answer]
@@ -126,10 +151,12 @@ def test_no_key(tests):
 
 
 def ask_until_answered(address, own, answered):
-    """Asks for calls one after another, each until it is answered, whatever ends the connection."""
+    """Asks for calls one after another, each until it is answered, whatever ends the connection, or until no server will come any more."""
     for number in range(EACH):
         key, answer = f"{own}/{number}", ""
         while not answer.endswith("\n"):
+            if "ended" in address:
+                return
             with contextlib.suppress(OSError):
                 peer = Peer(address["port"])
                 answer = peer.ask(once(key, 0, 1))
@@ -146,16 +173,14 @@ def test_kills_under_load(tests):
         server = servers.enter_context(made(tests, name))
         told(server, ADD)
         address["port"] = server.port
-        clients = [threading.Thread(target=ask_until_answered, args=(address, own, answered)) for own in range(CLIENTS)]
-        for client in clients:
-            client.start()
+        clients = Threads(*[(ask_until_answered, address, own, answered) for own in range(CLIENTS)])
+        servers.callback(address.setdefault, "ended", True)
         for _ in range(KILLS):
             time.sleep(random.uniform(0.05, 0.3))
             kill(server)
             server = servers.enter_context(again(tests, name))
             address["port"] = server.port
-        for client in clients:
-            client.join()
+        clients.join()
         server.stop()
         run = server.end()
     wanted = CLIENTS * EACH

@@ -5,11 +5,10 @@ import json
 import re
 import shutil
 import socket
-import threading
 
 import refusing
-from running import free_port, skip
-from serving import ADD, CALL, LONG, Peer, serving
+from running import Threads, chance, free_port
+from serving import ADD, CALL, LONG, NotStarted, Peer, serving
 
 QUO = json.dumps({"op": "register", "name": "quo", "asm": "arity 2\ndiv v2 v0 v1 else L\nemit v2\nL:\nret\n"})
 QUOTIENT = ["quo", [6, 3]]
@@ -148,11 +147,7 @@ def test_many_generations(tests):
         peer = Peer(server.port)
         peer.ask(ADD)
         answers = [[], [], []]
-        threads = [threading.Thread(target=add_often, args=(server.port, own)) for own in answers]
-        for thread in threads:
-            thread.start()
-        for thread in threads:
-            thread.join()
+        Threads(*[(add_often, server.port, own) for own in answers]).join()
         peer.close()
         server.stop()
         run = server.end()
@@ -374,14 +369,15 @@ OUT_OF_MEMORY = {290, 390, 490, 690, 790, 890, 990}
 def without_memory(tests, library, number):
     """A server that hands over after each epoch, to which the allocation of that number is refused. Whether it came to that."""
     def run(**named):
-        with serving(tests, "--generation", "1", "--trails", folder(tests, f"without-{number}"), connections=None, **named) as server:
-            if server.process.poll() is not None or "ends it" not in server.said:
-                return None, server.end()
-            peer = Peer(server.port)
-            answers = [json.loads(peer.ask(line) or "{}") for line in (ADD, *(CALL, SEAL) * 3, CALL)]
-            peer.close()
-            server.stop()
-            return answers, server.end()
+        try:
+            with serving(tests, "--generation", "1", "--trails", folder(tests, f"without-{number}"), connections=None, **named) as server:
+                peer = Peer(server.port)
+                answers = [json.loads(peer.ask(line) or "{}") for line in (ADD, *(CALL, SEAL) * 3, CALL)]
+                peer.close()
+                server.stop()
+                return answers, server.end()
+        except NotStarted as refused:
+            return None, refused.run
 
     (answers, run), was_refused = refusing.refused(library, number, False, run)
     name = f"allocation {number} of a server refused"
@@ -402,11 +398,9 @@ def without_memory(tests, library, number):
 
 
 def test_hand_over_without_memory(tests):
-    """Whichever allocation is refused, no answered call is lost."""
+    """Whichever allocation is refused, no answered call is lost. Each seventeenth is tried, from one of the first seventeen on."""
     library = refusing.library(tests.folder)
-    if library is None:
-        skip("there is no C compiler, so no run refuses memory")
-    number = 1
+    number = chance("hand-over").randrange(1, 18)
     while without_memory(tests, library, number):
         number += 17
 
@@ -491,12 +485,7 @@ def test_growth_beside_calls(tests):
         peer = Peer(server.port)
         peer.ask(ADD)
         numbers, answers = [[], [], []], [[], []]
-        threads = [threading.Thread(target=grow_often, args=(server.port, 8, own)) for own in numbers]
-        threads += [threading.Thread(target=add_often, args=(server.port, own)) for own in answers]
-        for thread in threads:
-            thread.start()
-        for thread in threads:
-            thread.join()
+        Threads(*[(grow_often, server.port, 8, own) for own in numbers], *[(add_often, server.port, own) for own in answers]).join()
         peer.close()
         server.stop()
         run = server.end()

@@ -17,7 +17,7 @@ import subprocess
 import tempfile
 
 import refusing
-from running import TOP, Counts, fixture, program_named, skip
+from running import PATIENCE, TOP, Counts, fixture, program_named
 
 ADMITTED, DONE = "all calls are admitted\n", "all steps are done"
 NO_MEMORY = 4
@@ -33,7 +33,7 @@ class Checks(Counts):
     def run(self, env=None, pass_fds=()):
         """Runs the program, and returns its status and what it prints."""
         done = subprocess.run([self.program], stdin=subprocess.DEVNULL, stdout=subprocess.PIPE, env=env, pass_fds=pass_fds,
-                              timeout=120, check=False)
+                              timeout=PATIENCE, check=False)
         return done.returncode, done.stdout.decode()
 
 
@@ -58,8 +58,6 @@ def ends_well(run, plain):
 
 def refused(tests, library, all_from):
     """Refuses each allocation in turn, alone or with all behind it."""
-    if library is None:
-        skip("there is no C compiler, so no run refuses memory")
     plain, number = tests.run(), 0
     while True:
         number += 1

@@ -3,7 +3,7 @@
 import json
 
 from serving import Peer, serving
-from test_store import again, call, kill, lines, made, reply, stored
+from test_store import again, call, kill, made, stored
 
 # What the record of examples/one-node.json begins with.
 OPENING = 5
@@ -36,7 +36,6 @@ def generation(server):
 
 def names_of(answer, member):
     return [each["name"] for each in answer.get(member, [])]
-
 
 
 def test_the_next_generation(tests):
@@ -74,6 +73,16 @@ def test_refusals(tests):
         tests.check("where all trails go into one file", answer == [{"error": [901]}], answer)
 
 
+def test_two_at_once(tests):
+    """Both of two procedures that are replaced at once are stored before that is answered."""
+    with made(tests, "two.db") as server:
+        told(server, register(adds("add", 1), adds("other", 1)), replace(adds("other", 3), adds("add", 2)))
+        kill(server)
+    with again(tests, "two.db") as server:
+        answers = told(server, call(0, 1), json.dumps({"op": "call", "proc": "other", "args": [0, 1]}))
+    tests.check("after a kill", [each["reply"] for each in answers] == [[OPENING + 2], [OPENING + 5]], answers)
+
+
 def test_a_store(tests):
     """A store has both codes; a start takes up the latest, after a stop and after a kill, and an export runs each epoch with the code that it had."""
     with made(tests, "replaced.db") as server:
@@ -102,3 +111,12 @@ def test_a_store(tests):
     run = tests.run("audit", *(f"trails/{name}" for name in files))
     tests.check("the audit of the files", run.status == 0, run)
     tests.check("it says what was replaced", run.err.splitlines() == [f"treedb: trails/{number}.json: add was replaced" for number in (1, 2)], run.err)
+    for kind, paths in (("a folder", ["trails"]), ("files", [f"trails/{name}" for name in files])):
+        run = tests.run("audit", "--same-procedures", *paths)
+        printed = run.out.splitlines()
+        tests.check(f"with --same-procedures {kind}: the second file is refused", run.status == 1 and len(printed) == 2 and printed[1] == '{"error":[720]}', run)
+        tests.check(f"{kind}: it says what was replaced there", run.err.splitlines()[:1] == ["treedb: trails/1.json: add was replaced"], run.err)
+    run = tests.run("audit", "--same-procedures", "trails/0.json")
+    tests.check("one file alone has none before it", run.status == 0, run)
+    run = tests.run("audit", "--same-procedures", "replaced.db")
+    tests.check("a store is exported first", run.status == 1 and run.out == '{"error":[720]}\n', run)

@@ -6,7 +6,7 @@ import socket
 import sqlite3
 import threading
 
-from running import free_port
+from running import PATIENCE, Threads, free_port
 from serving import ADD, Peer, serving
 from test_store import again, batch, call, lines, reply, stored
 
@@ -126,7 +126,7 @@ def test_the_line(tests):
             ("another word", b"snapshots a.db\n", lines({"error": [901]})),
             ("cut off", b"snapshot b.d", lines({"error": [901]})),
         ):
-            with socket.create_connection(("127.0.0.1", server.control), timeout=60) as peer:
+            with socket.create_connection(("127.0.0.1", server.control), timeout=PATIENCE) as peer:
                 peer.sendall(line)
                 peer.shutdown(socket.SHUT_WR)
                 got = peer.makefile().readline()
@@ -147,9 +147,7 @@ def test_under_load(tests):
     with copying(tests, "busy.db") as server:
         told(server, ADD)
         over, replies = threading.Event(), [[] for _ in range(CALLERS)]
-        callers = [threading.Thread(target=call_until, args=(server, over, each)) for each in replies]
-        for caller in callers:
-            caller.start()
+        callers = Threads(*[(call_until, server, over, each) for each in replies])
         for number in range(COPIES):
             before = max((each[-1] for each in replies if each), default=OPENING)
             run = snapshot(tests, server, f"copy-{number}.db")
@@ -158,8 +156,7 @@ def test_under_load(tests):
             tests.check(f"copy {number} has what was answered before", max(sums, default=OPENING) >= before, (len(sums), before))
             tests.check(f"copy {number} has each sum once", sorted(sums) == list(range(OPENING + 1, OPENING + 1 + len(sums))), len(sums))
         over.set()
-        for caller in callers:
-            caller.join()
+        callers.join()
         run = end(tests, server, "the end under load")
     whole = OPENING + sum(len(each) for each in replies)
     tests.check("nothing was lost meanwhile", json.loads(run.out.splitlines()[1])["records"][0][0] == whole, run)

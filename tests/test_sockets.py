@@ -4,10 +4,9 @@ import json
 import os
 import socket
 import stat
-import subprocess
 
 from running import free_port, skip
-from serving import ADD, CALL, Peer, serving
+from serving import ADD, CALL, LISTENING, Peer, Process, serving
 
 STOPPING = '{"stopping":true}\n'
 BOUNDS = '{"bounds":{"emits":1,"locks":1,"steps":7}}\n'
@@ -86,11 +85,10 @@ def test_by_themselves(tests):
             run = server.end()
             tests.check(f"by themselves {more}", run.status == 0 and not tests.path("s").exists() and not tests.path("c").exists(), run)
     words = ["serve", "--tree", "examples/one-node.json", "--socket", "s", "--connections", "1"]
-    with subprocess.Popen([tests.program, *words], cwd=tests.folder, stdout=subprocess.PIPE, stderr=subprocess.PIPE) as process:
-        process.stderr.readline()
-        Peer(tests.path("s")).close()
-        process.communicate(timeout=30)
-    tests.check("without a control", process.returncode == 0 and not tests.path("s").exists(), process.returncode)
+    server = Process(tests.program, words, LISTENING, folder=tests.folder)
+    Peer(tests.path("s")).close()
+    run = server.end()
+    tests.check("without a control", run.status == 0 and not tests.path("s").exists(), run)
 
 
 def test_modes(tests):

@@ -2,10 +2,12 @@
 
 import contextlib
 import json
+import signal
 import socket
 import time
 
-from running import free_port
+from disk import Disk, library
+from running import free_port, until
 from serving import ADD, CALL, LONG, Peer, serving
 
 STOPPING = '{"stopping":true}\n'
@@ -49,6 +51,18 @@ def test_open_connections(tests):
             tests.check("nobody is taken up later", late.rest() == "", "")
 
 
+def test_signals(tests):
+    """A signal ends a server at once: nothing is saved, written or printed."""
+    for sent in (signal.SIGTERM, signal.SIGHUP, signal.SIGINT):
+        with serving(tests, "--trail", "signal.json", "--save", "signal-left.json") as server:
+            peer = Peer(server.port)
+            tests.check(f"{sent.name}: a call before", '"bounds"' in peer.ask(ADD) and '"reply":[8]' in peer.ask(CALL), "")
+            server.process.send_signal(sent)
+            run = server.end()
+        tests.check(f"{sent.name} ends it", (run.status, run.out) == (-sent, ""), run)
+        tests.check(f"{sent.name}: no file is written", not tests.path("signal.json").exists() and not tests.path("signal-left.json").exists(), "")
+
+
 def test_unsaved(tests):
     """A tree that can't be saved is printed all the same, before the error."""
     for connections in (100, None):
@@ -86,13 +100,14 @@ def test_while_lines_come(tests):
             for _ in range(100):
                 peer.send(*[CALL] * 100)
         # The reading side may be ended in the middle of a line: what came of it is the last line, and is none that can be read.
-        answers = peer.rest().splitlines()
-        halves = [answer for answer in answers if answer == '{"error":[901]}']
-        answered = len(answers) - len(halves)
+        answers = peer.rest().splitlines(True)
         run = server.end()
         order = json.loads(run.out.splitlines()[0])["order"]
-        counted = run.status == 0 and order == list(range(len(order))) and len(order) >= answered
-        tests.check("lines that come", counted and halves == answers[answered:] and len(halves) <= 1, (answered, len(halves), len(order)))
+        done = len(order)
+        tests.check("lines that come: each answer is of its call", answers[:-1] == [f'{{"call":{call},"reply":[{8 + 3 * call}]}}\n' for call in range(len(answers) - 1)], answers[-3:])
+        last = ['{"error":[901]}\n', f'{{"call":{len(answers) - 1},"reply":[{5 + 3 * len(answers)}]}}\n']
+        tests.check("lines that come: the last one is of a call, or of half a line", not answers or answers[-1] in last or not answers[-1].endswith("\n"), answers[-1:])
+        tests.check("lines that come: what was answered is done, and no call is half done", (run.status, run.out) == (0, left([*range(done)], 5 + 3 * done)) and done >= len(answers) - 1, (len(answers), run))
 
 
 def test_all_places(tests):
@@ -140,8 +155,22 @@ def test_other_words(tests):
         tests.check("a control port that is taken", (run.status, run.out) == (3, '{"error":[33]}\n'), run)
 
 
+def test_waiting_for_an_answer(tests):
+    """A connection that waits for its answer longer than it may be silent isn't ended."""
+    disk = Disk(library(tests.folder), tests.folder)
+    with serving(tests, "--idle", "1", "--store", "things.db", connections=None, env=disk.env) as server:
+        peer = Peer(server.port)
+        peer.ask(ADD)
+        with disk.held() as waits:
+            peer.send(CALL)
+            until(waits, "no sync")
+            time.sleep(2.5)
+        answer = peer.lines.readline()
+    tests.check("an answer that comes late", answer == '{"call":0,"reply":[8]}\n', answer)
+
+
 def test_silence(tests):
-    """A connection that sends nothing is ended, and one that waits for its batch isn't."""
+    """A connection that sends nothing is ended."""
     with serving(tests, "--idle", "1", connections=10) as server:
         peers = [Peer(server.port) for _ in range(9)]
         busy = Peer(server.port)

@@ -1,6 +1,6 @@
 """Tests a server with a store: what was answered is found again, whatever ends the server.
 
-The files are read by Python's own SQLite while no server has them open. The test of a full disk mounts a small file system, and is skipped where that isn't allowed.
+The files are read by Python's own SQLite while no server has them open. `test_failing` tries disks that fail or are full, `test_syncs` that answers wait for the disk, `test_power` power cuts.
 """
 
 import contextlib
@@ -13,11 +13,9 @@ import signal
 import sqlite3
 import subprocess
 import sys
-import threading
 import time
-import unittest
 
-from running import TOP, free_port
+from running import TOP, Threads, free_port
 from serving import ADD, Peer, serving
 
 STORE = "things.db"
@@ -54,8 +52,7 @@ def again(tests, name, *words, **more):
 
 
 def kill(server):
-    server.process.send_signal(signal.SIGKILL)
-    server.process.communicate(timeout=60)
+    server.kill()
 
 
 def test_no_store(tests):
@@ -144,7 +141,12 @@ def test_foreign(tests):
     tests.answers("a file with other tables", [*words, "other.db"], 1, lines({"error": [1003, 9]}))
     tests.check("a file with other tables stays", tests.bytes("other.db") == before, "it is another")
     tests.path("folder.db").mkdir()
-    tests.answers("a folder", [*words, "folder.db"], 3, lines({"error": [1001]}))
+    tests.answers("a folder", [*words, "folder.db"], 3, lines({"error": [1001, 3]}))
+    tree = ["--tree", "examples/one-node.json"]
+    tests.answers("a file in no folder", [*words, "nowhere/things.db", *tree], 3, lines({"error": [1001, 2]}))
+    tests.path("played.db").touch()
+    tests.path("played.db-journal").write_bytes(b"a journal")
+    tests.answers("a file with a journal", [*words, "played.db", *tree], 3, lines({"error": [1001, 4]}))
     with made(tests, "changed.db") as server:
         peer = Peer(server.port)
         peer.ask(ADD)
@@ -160,7 +162,7 @@ def test_foreign(tests):
             base.execute(what)
             base.commit()
         run = tests.run(*words, "copy.db")
-        tests.check(f"a store after {what}", run.status == 1 and json.loads(run.out)["error"][0] == number[0], run)
+        tests.check(f"a store after {what}", (run.status, run.out) == (1, lines({"error": number})), run)
 
 
 def test_registered(tests):
@@ -218,6 +220,125 @@ def test_growth(tests):
     tests.check("growth: the nodes", stored(tests, name, "select number, parent, epoch from node") == [(0, 0, 0), (1, 0, 1), (2, 1, 1)], stored(tests, name, "select number, parent, epoch from node"))
     after = {"parents": [0, 0, 1], "records": [[value] + [0] * 7 for value in (9, 1, 6)]}
     tests.check("growth: the end", run.out.endswith(lines(after)), run)
+
+
+def test_three_nodes_at_once(tests):
+    """Each node of one growth is stored, and an export has it once."""
+    name = "three.db"
+    with made(tests, name) as server:
+        peer = Peer(server.port)
+        told = [peer.ask(line) for line in (ADD, json.dumps({"op": "grow", "parents": [0, 0, 2]}), call(1, 1), call(2, 2), call(3, 3))]
+        kill(server)
+    tests.check("three nodes", told[1:] == [lines({"grown": 1}), reply(0, 1, 1), reply(1, 2, 1), reply(2, 3, 1)], told)
+    trails = check_export(tests, name, "grown", [1, 1])
+    tests.check("three nodes: the export", [record[0] for record in trails[-1]["end"]] == [5, 1, 2, 3], trails[-1])
+    with again(tests, name) as server:
+        peer = Peer(server.port)
+        told = [json.loads(peer.ask(call(node, 1)))["reply"] for node in range(4)]
+        peer.close()
+        server.stop()
+        server.end()
+    tests.check("three nodes after a kill", told == [[6], [2], [3], [4]], told)
+    tests.check("three nodes: the rows", stored(tests, name, "select number, parent, epoch from node") == [(0, 0, 0), (1, 0, 1), (2, 0, 1), (3, 2, 1)], stored(tests, name, "select * from node"))
+
+
+def test_a_long_commit(tests):
+    """A batch whose calls take more than 32,768 turns is one commit, and can be read again."""
+    name, children = "long.db", 200
+    tests.path("wide.json").write_text(json.dumps({"parents": [0] * (children + 1), "records": [[1] + [0] * 7] * (children + 1)}))
+    text = "field value = 0; proc walk() { lock n = node(0); let sum = 0; for each child c of n at most 200 { sum += c.value; } emit sum; }"
+    with serving(tests, "--store", name, connections=None, tree="wide.json") as server:
+        peer = Peer(server.port)
+        peer.ask(json.dumps({"op": "register", "text": text}))
+        told = json.loads(peer.ask(json.dumps({"op": "batch", "calls": [["walk", []]] * 256, "workers": 1})))["batch"]
+        kill(server)
+    tests.check("a long commit", [each["reply"] for each in told] == [[children]] * 256, told[:2])
+    with again(tests, name) as server:
+        tests.check("a long commit is taken again", f"{name}: 256 calls of epoch 0 taken again, 0 of them ended now" in server.said, server.said)
+        kill(server)
+    turns = max(length for length, in stored(tests, name, "select length(calls) from turn"))
+    tests.check("it has many turns", turns > 2 * 32_768, turns)
+
+
+def test_the_log(tests):
+    """The log is moved into the file from time to time, and then begins anew."""
+    name, most = "logged.db", 0
+    with made(tests, name) as server:
+        peer = Peer(server.port)
+        peer.ask(ADD)
+        for _ in range(30):
+            for _ in range(20):
+                peer.ask(call(0, 1))
+            most = max(most, tests.path(name + "-wal").stat().st_size)
+        kill(server)
+    size = len(tests.bytes(name))
+    tests.check("the log has an end", most < 5_000_000 and size > 4096, (most, size))
+
+
+def test_others_are_kept_out(tests):
+    """While a server has a store, SQLite finds it locked."""
+    name = "locked.db"
+    with made(tests, name) as server:
+        Peer(server.port).ask(ADD)
+        for question in ("select * from call", "insert into reply values (9, 9, 9, '[]')"):
+            try:
+                with contextlib.closing(sqlite3.connect(tests.path(name), timeout=0)) as base:
+                    base.execute(question)
+                found = "it was done"
+            except sqlite3.OperationalError as refused:
+                found = str(refused)
+            tests.check(f"kept out: {question}", "locked" in found, found)
+        server.stop()
+        server.end()
+    tests.check("let in afterwards", stored(tests, name, "select count(*) from procedure") == [(1,)], name)
+
+
+def test_signals(tests):
+    """A server that a signal ends has stored what it answered."""
+    for sent in (signal.SIGTERM, signal.SIGHUP, signal.SIGINT):
+        name = f"{sent.name}.db"
+        with made(tests, name) as server:
+            peer = Peer(server.port)
+            told = [peer.ask(ADD), peer.ask(call(0, 3))]
+            server.process.send_signal(sent)
+            run = server.end()
+        tests.check(f"{sent.name} ends it", run.status == -sent and told[1] == reply(0, 8), (run, told))
+        with again(tests, name) as server:
+            told = Peer(server.port).ask(call(0, 0))
+        tests.check(f"after {sent.name}", told == reply(0, 8), told)
+
+
+def test_many_connections(tests):
+    """Forty connections at once, each of which gets its own answers."""
+    with serving(tests, "--store", "forty.db", "--at-once", "40", connections=None) as server:
+        peers = [Peer(server.port) for _ in range(40)]
+        peers[0].ask(ADD)
+        for peer in peers:
+            peer.send(*[call(0, 1)] * 5)
+        replies = [[json.loads(peer.lines.readline())["reply"][0] for _ in range(5)] for peer in peers]
+        for peer in peers:
+            peer.close()
+        server.stop()
+        run = server.end()
+    tests.check("forty connections: each finds its own writes", all(own == sorted(own) for own in replies), replies)
+    tests.check("forty connections: all are done", sorted(each for own in replies for each in own) == list(range(6, 206)) and run.status == 0, run)
+
+
+def test_most_procedures(tests):
+    """A store has 256 procedures, and no more."""
+    name, one = "most.db", "proc p{0}() {{ emit {0}; }} "
+    with made(tests, name) as server:
+        peer = Peer(server.port)
+        for begin in range(0, 256, 64):
+            answer = json.loads(peer.ask(json.dumps({"op": "register", "text": "".join(one.format(number) for number in range(begin, begin + 64))})))
+            tests.check(f"procedures from {begin}", len(answer.get("registered", [])) == 64, answer)
+        refused = [peer.ask(json.dumps({"op": "register", "text": one.format(256)})), peer.ask(json.dumps({"op": "register", "name": "more", "asm": "arity 0\nret\n"}))]
+        tests.check("one procedure too many", refused == [lines({"error": [613]})] * 2, refused)
+        kill(server)
+    with again(tests, name) as server:
+        peer = Peer(server.port)
+        answers = [peer.ask(json.dumps({"op": "call", "proc": f"p{number}", "args": []})) for number in (0, 255, 256)]
+    tests.check("all procedures after a kill", answers == [reply(0, 0), reply(1, 255), lines({"error": [601]})], answers)
 
 
 def copied(tests, name, copy, change=None):
@@ -295,7 +416,7 @@ def test_exports_refused(tests):
         server.stop()
         server.end()
     for what, words, status, numbers in (("a folder that isn't there", [name, "nowhere"], 3, [32]), ("a store that isn't there", ["none.db", "there"], 3, [31]),
-                                         ("a text", ["examples/one-node.json", "there"], 1, [1003, 9]), ("a folder as a store", ["examples", "there"], 3, [1001])):
+                                         ("a text", ["examples/one-node.json", "there"], 1, [1003, 9]), ("a folder as a store", ["examples", "there"], 3, [1001, 3])):
         tests.answers(f"export: {what}", ["export", *words], status, lines({"error": numbers}))
     tests.check("nothing is made by these", not any(tests.path(other).exists() for other in ("none.db", "none.db-wal", "examples/one-node.json-wal")), "it is there")
     with contextlib.closing(sqlite3.connect(tests.path("foreign.db"))) as base, base:
@@ -317,7 +438,7 @@ def test_exports_refused(tests):
     content = bytearray(tests.bytes("damaged.db"))
     content[4096 * 2:4096 * 2 + 64] = bytes(64)
     tests.path("damaged.db").write_bytes(content)
-    for words in (["audit", "damaged.db"], ["export", "damaged.db", "there"]):
+    for words in (["audit", "damaged.db"], ["export", "damaged.db", "there"], ["serve", "--port", str(free_port()), "--store", "damaged.db"]):
         run = tests.run(*words)
         tests.check(f"{words[0]} of a damaged file", run.status == 1 and json.loads(run.out)["error"][0] in (1003, 1013), run)
     for number in (0, 5):
@@ -406,9 +527,7 @@ def test_kills_under_load(tests):
             if number == 0:
                 Peer(server.port).ask(ADD)
             answered = [[] for _ in range(8)]
-            threads = [threading.Thread(target=ask_until_killed, args=(server.port, own)) for own in answered]
-            for thread in threads:
-                thread.start()
+            threads = Threads(*[(ask_until_killed, server.port, own) for own in answered])
             # Every second kill comes after some answers, so that a slow machine has as many to lose.
             if number % 2:
                 end = time.monotonic() + 30
@@ -416,8 +535,7 @@ def test_kills_under_load(tests):
                     time.sleep(0.01)
             time.sleep(random.uniform(0.02, 0.3))
             kill(server)
-            for thread in threads:
-                thread.join()
+            threads.join()
         shutil.copyfile(tests.path(name), tests.path("look.db"))
         shutil.copyfile(tests.path(name + "-wal"), tests.path("look.db-wal"))
         rows = {(epoch, call): (json.loads(arguments), json.loads(reply)) for epoch, call, arguments, reply in stored(tests, "look.db",
@@ -435,53 +553,6 @@ def test_kills_under_load(tests):
         server.end()
     amounts = [json.loads(arguments)[1] for arguments, in stored(tests, name, "select arguments from call")]
     tests.check("kills under load: the sum of all", told == [5 + sum(amounts)] and len(amounts) > 100, (told, sum(amounts), len(amounts)))
-
-
-@contextlib.contextmanager
-def small_disk(path):
-    """A file system of 1,500 kB there, or None where this user may mount none."""
-    path.mkdir()
-    mounted = subprocess.run(["mount", "-t", "tmpfs", "-o", "size=1500k", "tmpfs", str(path)], capture_output=True).returncode == 0
-    try:
-        yield path if mounted else None
-    finally:
-        if mounted:
-            subprocess.run(["umount", "-l", str(path)], check=True)
-
-
-def fill(server):
-    """Adds until nothing is answered any more, and returns what was."""
-    answered = []
-    with contextlib.suppress(OSError, ValueError):
-        peer = Peer(server.port)
-        peer.ask(ADD)
-        while True:
-            answered += json.loads(peer.ask(batch(*[1] * 256)))["batch"]
-    return answered
-
-
-def test_a_full_disk(tests):
-    """Nothing is answered that has no room, the server ends by itself, and all that was answered is found where there is room."""
-    with small_disk(tests.path("small")) as disk:
-        if disk is None:
-            raise unittest.SkipTest("this user may mount no file system")
-        with made(tests, "small/full.db") as server:
-            answered = fill(server)
-            run = server.end()
-        for suffix in ("", "-wal"):
-            if (disk / f"full.db{suffix}").exists():
-                shutil.copyfile(disk / f"full.db{suffix}", tests.path(f"roomy.db{suffix}"))
-    tests.check("a full disk: the server's end", (run.status, run.out) == (3, lines({"error": [1012]})), run)
-    tests.check("a full disk: calls before it", len(answered) > 256 and all("reply" in each for each in answered), len(answered))
-    with again(tests, "roomy.db") as server:
-        peer = Peer(server.port)
-        told = json.loads(peer.ask(call(0, 0)))["reply"][0]
-        peer.close()
-        server.stop()
-        server.end()
-    rows = {(epoch, number): json.loads(values) for epoch, number, values in stored(tests, "roomy.db", "select epoch, call, reply from reply")}
-    lost = [each for each in answered if rows.get((each.get("epoch", 0), each["call"])) != each["reply"]]
-    tests.check("a full disk: what was answered is there", lost == [] and told >= 5 + len(answered), (lost[:3], told, len(answered)))
 
 
 def test_mistakes(tests):

@@ -5,19 +5,20 @@ that the environment variable PICTURES names, if there is one. Where there is no
 """
 
 import base64
+import contextlib
 import fcntl
 import functools
 import http.server
 import json
 import os
 import pathlib
+import select
 import shutil
 import subprocess
 import tempfile
 import threading
-import time
 
-from running import TOP, fixture, skip
+from running import PATIENCE, TOP, Hangs, before_program, fixture, tool, until
 
 SWEEPS = [["sweep", [1]], ["sweep", [10]]]
 
@@ -39,6 +40,7 @@ class Browser:
             # Away from 3 and 4 first, since one of them may be in the place of the other.
             one, other = (fcntl.fcntl(it, fcntl.F_DUPFD, 10) for it in (to_browser, from_browser))
             os.dup2(one, 3), os.dup2(other, 4)
+            before_program()()
 
         self.profile = tempfile.TemporaryDirectory()
         words.append(f"--user-data-dir={self.profile.name}")
@@ -58,6 +60,8 @@ class Browser:
         os.write(self.writing, json.dumps(message).encode() + b"\0")
         while True:
             while b"\0" not in self.rest:
+                if not select.select([self.reading], [], [], PATIENCE)[0]:
+                    raise Hangs(f"the browser hasn't answered {method} after {PATIENCE:.0f} s")
                 more = os.read(self.reading, 1 << 16)
                 if not more:
                     raise RuntimeError("the browser has ended")
@@ -93,7 +97,9 @@ class Browser:
 
     def end(self):
         self.process.terminate()
-        self.process.wait(timeout=30)
+        with contextlib.suppress(subprocess.TimeoutExpired):
+            self.process.wait(timeout=30)
+        self.process.kill()
         self.profile.cleanup()
 
 
@@ -210,9 +216,7 @@ class Site:
 
 @fixture(scope="module")
 def site(program):
-    chromium = shutil.which("chromium") or shutil.which("chromium-browser") or shutil.which("google-chrome")
-    if not chromium:
-        skip("there is no Chromium")
+    chromium = tool("chromium")
     with tempfile.TemporaryDirectory() as name:
         folder = pathlib.Path(name)
         shutil.copytree(TOP / "viewer", folder / "viewer")
@@ -313,10 +317,7 @@ def test_a_folder_that_is_followed(tests, site):
 
 
 def wait_until(site, expression):
-    end = time.monotonic() + 20
-    while not site.browser.value(expression):
-        assert time.monotonic() < end, f"it never came to {expression}"
-        time.sleep(0.1)
+    until(lambda: site.browser.value(expression), f"it never came to {expression}")
 
 
 # ---- what an audit refused

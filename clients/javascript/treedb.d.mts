@@ -25,8 +25,8 @@ export interface Recalled {
 /** A call of a batch: its procedure, and its arguments. */
 export type Call = readonly [procedure: string, ...args: Integer[]];
 
-/** Where a server listens, and a time limit in milliseconds. */
-export type ConnectOptions = ({ port: number; host?: string; path?: undefined } | { path: string }) & { timeout?: number };
+/** Where a server listens, and time limits in milliseconds: for each answer, and for the connection, which has that of an answer where it isn't said. */
+export type ConnectOptions = ({ port: number; host?: string; path?: undefined } | { path: string }) & { timeout?: number; connectTimeout?: number };
 
 /** When a number is answered, and what to do then. */
 export interface Fault {

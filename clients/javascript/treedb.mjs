@@ -143,14 +143,14 @@ export class Client {
   }
 
   /**
-   * Connects to a port, `{ port, host }` or `port, host`, or to a Unix socket, `{ path }`. With `timeout`, in milliseconds, the connection and each answer have to
-   * come in time, else `TimedOut`; the connection goes on after that, and the late answer is passed over.
+   * Connects to a port, `{ port, host }` or `port, host`, or to a Unix socket, `{ path }`. With `timeout`, in milliseconds, each answer has to come in time, else
+   * `TimedOut`; the connection goes on after that, and the late answer is passed over. `connectTimeout` is that of the connection, and as long as `timeout` where it isn't said.
    */
   static connect(to, host) {
-    const { timeout = 0, ...address } = typeof to === "object" ? { ...(to.path === undefined && { host: "127.0.0.1" }), ...to } : { port: to, host: host ?? "127.0.0.1" };
+    const { timeout = 0, connectTimeout = timeout, ...address } = typeof to === "object" ? { ...(to.path === undefined && { host: "127.0.0.1" }), ...to } : { port: to, host: host ?? "127.0.0.1" };
     return new Promise((connected, failed) => {
       const socket = net.connect(address);
-      const late = timeout > 0 ? setTimeout(() => stop(new TimedOut("no connection in time")), timeout) : undefined;
+      const late = connectTimeout > 0 ? setTimeout(() => stop(new TimedOut("no connection in time")), connectTimeout) : undefined;
       const stop = (reason) => {
         clearTimeout(late);
         socket.destroy();

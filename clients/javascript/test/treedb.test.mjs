@@ -180,7 +180,8 @@ test("a late answer is passed over", async () => {
     setTimeout(() => peer.write('{"call":0,"reply":[1]}\n{"call":1,"reply":[2]}\n'), 200);
     return undefined;
   }, async (to) => {
-    const db = await Client.connect({ ...to, timeout: 100 });
+    // A busy machine may take longer than that to connect.
+    const db = await Client.connect({ ...to, timeout: 100, connectTimeout: 60_000 });
     await assert.rejects(db.call("add", 1), TimedOut);
     await new Promise((go) => setTimeout(go, 200));
     await db.close();

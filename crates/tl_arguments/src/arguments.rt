@@ -418,6 +418,12 @@ fn audit_command<'a>(alloc: Global) -> Result<Command<'a>, AllocError> {
                 "Says on standard error what stands where something is wrong, and what should",
             )
             .as_a(Reading::Flag),
+            Row::option(
+                "same-procedures",
+                "",
+                "Refuses a file of which a procedure has another code than in the file before",
+            )
+            .as_a(Reading::Flag),
             Row::file(
                 "TRAIL",
                 "The file of the trail, as JSON; several that follow each other; a folder of such files; or the file of a store",

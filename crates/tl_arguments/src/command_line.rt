@@ -159,6 +159,8 @@ pub enum Request<'a> {
         trails: Vec<&'a str>,
         /// Whether to say what should stand where something is wrong.
         explains: bool,
+        /// Whether a procedure may have no other code than in the file before.
+        keeps_procedures: bool,
     },
     /// Write the trails of a store's epochs into a folder.
     Export {
@@ -418,6 +420,7 @@ fn request_of<'a>(alloc: Global, name: &str, words: &ArgMatches<'a>) -> Option<R
         return Some(Request::Audit {
             trails: all_of(alloc, words, "TRAIL")?,
             explains: words.get_flag("explain"),
+            keeps_procedures: words.get_flag("same-procedures"),
         });
     }
     if name == "export" {

@@ -35,7 +35,8 @@ that isn't done; 717, another reply; {\"error\":[716,node]}, another record in t
 A file that is a list is a chain, one trail an epoch: this prints {\"orders\":[..]}, or {\"error\":[718,trail]} where a trail
 doesn't take over where the one before it ends, or {\"error\":[719,trail,..]} with what is wrong with a trail.
 Of several files, each has to go on where the one before it ends: treedb audit 0.json 1.json prints {\"orders\":[..]} for each file,
-or what is wrong with it, and names it. So does treedb audit FOLDER with the files 0.json, 1.json and so on of a folder.
+or what is wrong with it, and names it. So does treedb audit FOLDER with the files 0.json, 1.json and so on of a folder. Between
+two files a server may have replaced procedures, which standard error names; with --same-procedures that is {\"error\":[720]}.
 Of the file of a store, which no server has open, it takes the calls again, and prints what it would print of the files that export
 writes.
 With --explain a sentence on standard error says what stands where something is wrong, and what should stand there.

@@ -17,6 +17,7 @@ use crate::{
     compile_cmd, dis_cmd, drive_cmd, keep_generation, migrate_cmd, output, procs_cmd, run_cmd,
     tree_file, verify_cmd, widen_cmd,
 };
+use auditing::Auditing;
 use sources::{SourceFile, all_of, source_by_name};
 use std::io::ErrorKind;
 use std::net::{Net, TcpListener, TcpStream};
@@ -483,7 +484,17 @@ where
                 self.serve_store(files, *options, procedures, archive, opens)
             }
             Request::Files(command) => self.answer_files(*command),
-            Request::Audit { trails, explains } => self.audit(trails, *explains, epochs),
+            Request::Audit {
+                trails,
+                explains,
+                keeps_procedures,
+            } => {
+                let how = Auditing {
+                    explains: *explains,
+                    keeps_procedures: *keeps_procedures,
+                };
+                self.audit(trails, how, epochs)
+            }
             Request::Export { store, folder } => self.export(store, folder, epochs),
             Request::Copy { control, name } => self.copy(*control, name),
             Request::Stop { control } => self.stop(*control),

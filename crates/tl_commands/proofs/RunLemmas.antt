@@ -1,5 +1,5 @@
 -- The parts of a run of the command `run` together.
-use Rattle.std.proofs.Common.{◌≡◌, ◌+◌, ◌<◌, inl, inr, ℕ, List, [], ◌∷◌, ◌++◌, length, get_or, take, map, refl, sym, ap, ◌∙◌, subst, Ok}
+use Rattle.std.proofs.Common.{◌≡◌, ◌+◌, ◌<◌, inl, inr, ℕ, Bool, false, List, [], ◌∷◌, ◌++◌, length, get_or, take, map, refl, sym, ap, ◌∙◌, subst, Ok}
 use Rattle.std.specs.Prelude.{Result, Vec}
 use Rattle.std.specs.declared.alloc.Global.{Global}
 use Rattle.std.specs.List.{All}
@@ -23,6 +23,7 @@ use Rattle.tl_table.specs.Epochs.{EpochValue}
 use Rattle.tl_table.specs.declared.receipt.Receipt.{Receipt}
 use Rattle.tl_workers.specs.Kept.{SessionValue, Gains, AnswersEach, asked_of, gots_of}
 use Rattle.tl_workers.specs.Matching.{Matches}
+use Rattle.tl_workers.specs.Refusals.{AreCallRefusals}
 use Rattle.tl_workers.specs.declared.refusal.Refusal.{Refusal}
 use Rattle.tl_workers.specs.declared.session.Did.{Did}
 use Rattle.tl_commands.specs.Scripted.{AreRegistered}
@@ -111,10 +112,11 @@ gains_more old now new first more h k = record {
 
 -- ---- the session
 
-pub answered : (batches : List (List Request)) (all : List (List (Result Receipt Refusal))) (old new : SessionValue) → AnswersBatches batches all → old.kept ≡ []
-    → Gains old new (kept_of batches all) → AreAnswered batches all new
-answered batches all old new each none gains = record {
+pub answered : (batches : List (List Request)) (all : List (List (Result Receipt Refusal))) (old new : SessionValue) → AnswersBatches batches all → (seals : Bool) → seals ≡ false
+    → All (AreCallRefusals seals) all → old.kept ≡ [] → Gains old new (kept_of batches all) → AreAnswered batches all new
+answered batches all old new each seals by_hand refused none gains = record {
   each = each;
+  refused = subst (λ b. All (AreCallRefusals b) all) by_hand refused;
   kept = gains.kept ∙ ap (λ dids. dids ++ kept_of batches all) none;
 }
 

@@ -15,7 +15,7 @@ use Rattle.tl_machine.specs.Alone.{alone}
 use Rattle.tl_tree_locking.specs.Alone.{Outcome}
 use Rattle.tl_machine.specs.Outcomes.{outcome_of}
 use Rattle.tl_commands.specs.declared.fault.CliFault.{CliFault}
-use Rattle.tl_commands.specs.declared.fault.CliFault.TheVariants.{Unreadable, Unwritable, NoPort, NotUtf8, Asm, Tree, Code, Verify, Source, Sources, Register, Core, Trail, Audit, Chain, Engine, NotClosed, NotScript, NotArgs, WrongArgs, Memory}
+use Rattle.tl_commands.specs.declared.fault.CliFault.TheVariants.{Unreadable, Unwritable, NoPort, NotUtf8, Asm, Tree, Code, Verify, Source, Sources, Register, Core, Trail, Audit, Chain, Engine, Replaced, NotClosed, NotScript, NotArgs, WrongArgs, Memory}
 
 -- the first line: the reply, and the number of instructions executed
 abbrev pub answer_text : List ℤ → ℕ → List ℕ
@@ -84,5 +84,6 @@ IsFirstAloneFault limit t source name a (Trail f) = ⊥
 IsFirstAloneFault limit t source name a (Audit f) = ⊥
 IsFirstAloneFault limit t source name a (Chain f) = ⊥
 IsFirstAloneFault limit t source name a (Engine r) = ⊥
+IsFirstAloneFault limit t source name a Replaced = ⊥
 IsFirstAloneFault limit t source name a NotClosed = ⊥
 IsFirstAloneFault limit t source name a NotScript = ⊥

@@ -26,6 +26,12 @@ tree_after [] = record { parents = []; records = [] }
 tree_after (e ∷ []) = tree_now (seen e)
 tree_after (e ∷ f ∷ es) = tree_after (f ∷ es)
 
+-- how many sessions had been given when the last epoch ended
+abbrev pub sessions_given : List EpochValue → ℕ
+sessions_given [] = 0
+sessions_given (e ∷ []) = e.sessions
+sessions_given (e ∷ f ∷ es) = sessions_given (f ∷ es)
+
 -- two lines: the orders, and the final tree
 pub record IsClosing (has_epochs : Bool) (es : List EpochValue) (out : List ℕ) : Type 0 where
   pub orders : List (List ℕ)

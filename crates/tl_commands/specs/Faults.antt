@@ -21,7 +21,7 @@ use Rattle.tl_table.specs.declared.fault.TableFault.TheVariants as table
 use Rattle.tl_workers.specs.Refusals.{numbers_of as engine_numbers_of}
 use Rattle.tl_workers.specs.declared.refusal.Refusal.TheVariants as refusal
 use Rattle.tl_commands.specs.declared.fault.CliFault.{CliFault}
-use Rattle.tl_commands.specs.declared.fault.CliFault.TheVariants.{Unreadable, Unwritable, NoPort, NotUtf8, Asm, Tree, Code, Verify, Source, Sources, Register, Core, Trail, Audit, Chain, Engine, NotClosed, NotScript, NotArgs, WrongArgs, Memory}
+use Rattle.tl_commands.specs.declared.fault.CliFault.TheVariants.{Unreadable, Unwritable, NoPort, NotUtf8, Asm, Tree, Code, Verify, Source, Sources, Register, Core, Trail, Audit, Chain, Engine, Replaced, NotClosed, NotScript, NotArgs, WrongArgs, Memory}
 
 abbrev pub numbers_of : CliFault → List ℕ
 numbers_of Unreadable = 31 ∷ []
@@ -40,6 +40,7 @@ numbers_of (Trail f) = trail_numbers_of f
 numbers_of (Audit f) = audit_numbers_of f
 numbers_of (Chain f) = chain_numbers_of f
 numbers_of (Engine r) = engine_numbers_of r
+numbers_of Replaced = 720 ∷ []
 numbers_of NotClosed = 831 ∷ []
 numbers_of NotScript = 731 ∷ []
 numbers_of NotArgs = 732 ∷ []

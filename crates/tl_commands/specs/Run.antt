@@ -1,5 +1,5 @@
 -- The output of the command `run`, and its faults.
-use Rattle.std.specs.Prelude.{◌≡◌, ◌≢◌, ◌⊎◌, ◌<◌, ℕ, ◌==◌, Bool, List, [], ◌∷◌, ◌++◌, length, map, slice_get, codes, Result, Ok, Err, Vec, Some, if◌then◌else◌}
+use Rattle.std.specs.Prelude.{◌≡◌, ◌≢◌, ◌⊎◌, ◌<◌, ℕ, ◌==◌, Bool, false, List, [], ◌∷◌, ◌++◌, length, map, slice_get, codes, Result, Ok, Err, Vec, Some, if◌then◌else◌}
 use Rattle.std.specs.List.{All}
 use Rattle.std.specs.declared.alloc.Global.{Global}
 use Rattle.serde_json.specs.Data.{Data, Members, object, member, no_members}
@@ -19,7 +19,7 @@ use Rattle.tl_table.specs.declared.fault.TableFault.TheVariants.{TooManySessions
 use Rattle.tl_table.specs.declared.receipt.Receipt.{Receipt}
 use Rattle.tl_workers.specs.Kept.{SessionValue, AnswersEach, asked_of, gots_of}
 use Rattle.tl_workers.specs.Matching.{Matches}
-use Rattle.tl_workers.specs.Refusals.{numbers_of, IsSealRefused}
+use Rattle.tl_workers.specs.Refusals.{numbers_of, AreCallRefusals, IsSealRefused}
 use Rattle.tl_workers.specs.declared.refusal.Refusal.{Refusal}
 use Rattle.tl_workers.specs.declared.refusal.Refusal.TheVariants as refusal
 use Rattle.tl_workers.specs.declared.session.Did.{Did}
@@ -92,9 +92,11 @@ abbrev pub kept_of : List (List Request) → List (List (Result Receipt Refusal)
 kept_of (requests ∷ batches) (answers ∷ rest) = (asked_of requests answers ++ gots_of answers) ++ kept_of batches rest
 kept_of batches answers = []
 
--- The session made the requests, batch by batch, and had these answers.
+-- The session made the requests, batch by batch, and had these answers. A request that was refused was refused for a reason that an engine has which isn't
+-- sealed by itself.
 pub record AreAnswered (batches : List (List Request)) (answers : List (List (Result Receipt Refusal))) (session : SessionValue) : Type 0 where
   pub each : AnswersBatches batches answers
+  pub refused : All (AreCallRefusals false) answers
   pub kept : session.kept ≡ kept_of batches answers
 
 -- what a script of calls came to: the answers to each batch, the epochs of the closed table, and whether the script names epochs

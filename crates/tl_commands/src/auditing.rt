@@ -1,6 +1,6 @@
 // The command `audit`.
 
-ghost use Rattle.std.specs.Prelude.{◌≡◌, ◌≢◌, ◌<◌, ◌≤◌, [], ◌∷◌, ◌++◌, length, map, string_bytes, option_copied, Option, Some, IfOk, OnOk, IfErr};
+ghost use Rattle.std.specs.Prelude.{◌≡◌, ◌≢◌, ◌<◌, ◌≤◌, ◌↔◌, [], ◌∷◌, ◌++◌, length, map, string_bytes, option_copied, Option, Some, IsOk, IfOk, OnOk, IfErr};
 ghost use Rattle.serde_json.specs.Written.{compact_text};
 ghost use Rattle.tl_json.specs.Lists.{order_data, orders_data};
 ghost use Rattle.tl_table.specs.Chains.{calls_in};
@@ -9,6 +9,7 @@ ghost use Rattle.tl_trail.specs.declared.chain.TheConstants.{MAX_TRAILS};
 ghost use Rattle.tl_audit.specs.declared.chain.ChainFault.{ChainFault};
 ghost use Rattle.tl_audit.specs.Chains.{Before, AfterTrail, AreSerial, CleanAfter, IsFirstAfter, after_file, last_after, order_of};
 ghost use Rattle.tl_commands.specs.Audit.{begins_with_list, Audits, AuditsTrail, AuditsChain, IsFirstAuditFault, IsFirstTrailAuditFault, IsFirstChainAuditFault};
+ghost use Rattle.tl_commands.specs.declared.fault.CliFault.TheVariants.{Replaced};
 ghost use Rattle.tl_commands.specs.Faults.{status_of};
 ghost use Rattle.tl_commands.specs.NextAudit.{AreTrailsOf, AuditsNext, IsFirstNextFault, IsTextFault, fault_of_file};
 
@@ -199,6 +200,20 @@ pub struct AuditedFile {
     pub last: Trail,
     /// The names of the procedures that have other codes than in the file before.
     pub replaced: Vec<String>,
+}
+
+impl AuditedFile {
+    /// 720 if a procedure has another code than in the file before.
+    pub fn check_procedures(&self) -> Result<(), CliFault>
+        ensures same { IsOk result ↔ (self.now.replaced.items ≡ []) }
+        ensures fault { IfErr result (λ e. e ≡ Replaced) }
+    {
+        if self.replaced.is_empty() {
+            Ok(())
+        } else {
+            Err(CliFault::Replaced)
+        }
+    }
 }
 
 /// One file more of several that belong together: the line of the orders of its trails, its last trail, from which the next file has to

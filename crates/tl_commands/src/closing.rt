@@ -7,7 +7,7 @@ ghost use Rattle.tl_serial_order.specs.Order.{OrderValue};
 ghost use Rattle.tl_json.specs.Lists.{orders_data};
 ghost use Rattle.tl_table.specs.Chains.{calls_in};
 ghost use Rattle.tl_table.specs.Tables.{IsChain};
-ghost use Rattle.tl_commands.specs.Closing.{AreOrders, IsClosing, orders_form, tree_after};
+ghost use Rattle.tl_commands.specs.Closing.{AreOrders, IsClosing, orders_form, sessions_given, tree_after};
 ghost use Rattle.tl_commands.specs.Faults.{status_of};
 
 use crate::fault::CliFault;
@@ -51,6 +51,18 @@ pub fn last_tree(chain: &[Closed]) -> &Tree
         unreachable!()
     };
     last.core().tree()
+}
+
+// How many sessions had been given when the last epoch ended.
+pub(crate) fn sessions_given(chain: &[Closed]) -> u32
+    requires { IsChain chain.now }
+    ensures { result ≡ sessions_given chain.now }
+{
+    let Some(last) = chain.last() else {
+        // There is at least one epoch.
+        unreachable!()
+    };
+    last.sessions()
 }
 
 /// The order of the calls of each epoch, or of the only one, and the tree that they left.

@@ -67,10 +67,13 @@ pub enum CliFault {
     /// 718, 719 with what is wrong with a trail, 790: what is wrong with a chain of trails.
     #[error("the chain: {0}")]
     Chain(ChainFault),
+    /// 720: a procedure of a file has another code than in the file before, which was to be refused.
+    #[error("a procedure has another code than in the file before")]
+    Replaced,
     /// 606, 690, 808, 821, 890, 990: the engine that runs many calls at once refuses.
     #[error("the calls: {0}")]
     Engine(Refusal),
-    /// 831: a call is unfinished, or the calls aren't those that were asked for.
+    /// 831: a call is unfinished, or the calls aren't those that were asked for, or a session isn't there.
     #[error("the calls are not those that were asked for")]
     NotClosed,
     /// 731: the text isn't a script.
@@ -110,6 +113,7 @@ impl CliFault {
             CliFault::Audit(fault) => return as_many(&fault.numbers()),
             CliFault::Chain(fault) => return fault.numbers(),
             CliFault::Engine(refusal) => return as_many(&refusal.numbers()),
+            CliFault::Replaced => numbers.push(720),
             CliFault::NotClosed => numbers.push(831),
             CliFault::NotScript => numbers.push(731),
             CliFault::NotArgs => numbers.push(732),

@@ -1,12 +1,12 @@
 // The command `serve` where engines take over from one another: what is done when one has used up its epochs.
 
-ghost use Rattle.std.specs.Prelude.{◌≡◌, [], true, string_bytes, IfOk, OnOk, IfErr, OnErr, All};
+ghost use Rattle.std.specs.Prelude.{◌≡◌, [], true, vec_len, string_bytes, IfOk, OnOk, IfErr, OnErr, All};
 ghost use Rattle.serde_json.specs.View.{view};
 ghost use Rattle.tl_table.specs.Tables.{IsChain};
 ghost use Rattle.tl_workers.specs.Matching.{Matches};
 ghost use Rattle.tl_workers.specs.Sessions.{AreAllOf, AskForEachOnce, FindsItsWrites};
 ghost use Rattle.tl_generations.specs.Generations.{TakesTurn};
-ghost use Rattle.tl_commands.specs.Closing.{IsClosing, tree_after};
+ghost use Rattle.tl_commands.specs.Closing.{IsClosing, sessions_given, tree_after};
 ghost use Rattle.tl_commands.specs.declared.fault.CliFault.TheVariants.{NotClosed};
 ghost use Rattle.tl_commands.specs.Faults.{status_of};
 ghost use Rattle.tl_commands.specs.Generations.{BeginsWithFile, IsTurnFault, generations_data};
@@ -106,13 +106,15 @@ fn sealing_engine(alloc: Global, core: Core) -> Result<Engine, CliFault>
     Ok(engine_of(alloc, core)?.that_seals())
 }
 
-/// Closes an engine with all its sessions. 831 if it doesn't close: a call is unfinished, or a session's list isn't what the table says.
+/// Closes an engine with all its sessions. 831 if it doesn't close: a call is unfinished, or a session's list isn't what the table says, or the sessions
+/// are more or fewer than the table had given.
 /// Takes no memory.
 pub fn close_generation(engine: Engine, sessions: Vec<Session>) -> Result<Generation, CliFault>
     ensures chain { IfOk result (λ g. IsChain g) }
     ensures matches { IfOk result (λ g. All (Matches g) sessions.items) }
     ensures once { IfOk result (λ g. AreAllOf g sessions.items → AskForEachOnce g sessions.items) }
     ensures writes { IfOk result (λ g. All (FindsItsWrites g) sessions.items) }
+    ensures given { IfOk result (λ g. vec_len sessions ≡ sessions_given g) }
     ensures fault { IfErr result (λ e. e ≡ NotClosed) }
 {
     match close_engine(engine, sessions) {
@@ -140,7 +142,7 @@ pub fn take_generation(
 }
 
 /// Closes an engine with all its sessions, and takes its epochs as the next generation. 831 if the engine doesn't close, since a call is
-/// unfinished or a session's list isn't what the table says; or if it didn't begin with what the one before left. 990 if memory was
+/// unfinished, a session's list isn't what the table says, or there are more or fewer sessions than the table had given; or if it didn't begin with what the one before left. 990 if memory was
 /// refused: the epochs are lost then, so whoever wants to try again calls `close_generation` and `take_generation`.
 pub fn end_generation(
     alloc: Global,
@@ -152,6 +154,7 @@ pub fn end_generation(
     ensures matches { IfOk result (λ g. All (Matches g) sessions.items) }
     ensures once { IfOk result (λ g. AreAllOf g sessions.items → AskForEachOnce g sessions.items) }
     ensures writes { IfOk result (λ g. All (FindsItsWrites g) sessions.items) }
+    ensures given { IfOk result (λ g. vec_len sessions ≡ sessions_given g) }
     ensures turn { IfOk result (λ g. TakesTurn succession.old g succession.new) }
     ensures err { OnErr result (succession.new ≡ succession.old) }
     ensures fault { IfErr result (λ e. IsConclusionFault e) }

@@ -1,11 +1,12 @@
 // The command `run`.
 
-ghost use Rattle.std.specs.Prelude.{◌≡◌, ◌≢◌, ◌≤◌, ◌↔◌, ℕ, List, [], length, All, map, string_bytes, IsTrue, IfOk, IfErr};
+ghost use Rattle.std.specs.Prelude.{◌≡◌, ◌≢◌, ◌≤◌, ◌↔◌, ℕ, List, [], false, length, All, map, string_bytes, IsTrue, IfOk, IfErr};
 ghost use Rattle.tl_table.specs.Epochs.{seen};
 ghost use Rattle.tl_table.specs.Tables.{IsChain};
 ghost use Rattle.tl_workers.specs.declared.batch.TheConstants.{MAX_REQUESTS, MAX_WORKERS};
 ghost use Rattle.tl_workers.specs.Kept.{SessionValue, Gains};
 ghost use Rattle.tl_workers.specs.Matching.{Matches};
+ghost use Rattle.tl_workers.specs.Refusals.{AreCallRefusals};
 ghost use Rattle.tl_commands.specs.Faults.{status_of};
 ghost use Rattle.tl_commands.specs.Run.{AnswersBatches, AreAnswered, AreInEpochs, IsInEpoch, kept_of, IsLeftOpen, IsRun, IsBrokenOff, IsFirstRunFault, RunsOn, begun_by, batches_of, answers_of, batch_lines, PrintsRun};
 
@@ -98,6 +99,7 @@ fn ask_each<R: Threads + Wait + Sync, G: Gate + Sync>(
     requires one { 1 ≤ workers }
     requires workers { workers ≤ MAX_WORKERS }
     ensures each { IfOk result (λ answers. AnswersBatches (batches_of batches.now) (answers_of answers.items)) }
+    ensures refused { IfOk result (λ answers. All (AreCallRefusals engine.now.seals) (answers_of answers.items)) }
     ensures epochs { IfOk result (λ answers. AreInEpochs (answers_of answers.items)) }
     ensures kept { IfOk result (λ answers. Gains session.old session.new (kept_of (batches_of batches.now) (answers_of answers.items))) }
     ensures fault { IfErr result (λ e. status_of e ≢ 4 → IsBrokenOff (batches_of batches.now) e) }
@@ -130,6 +132,7 @@ fn ask_with_helpers<R: Threads + Wait + Sync, G: Gate + Sync>(
     requires one { 1 ≤ workers }
     requires workers { workers ≤ MAX_WORKERS }
     ensures each { IfOk result (λ r. AnswersBatches (batches_of batches.now) (answers_of r.0.items)) }
+    ensures refused { IfOk result (λ r. All (AreCallRefusals engine.now.seals) (answers_of r.0.items)) }
     ensures epochs { IfOk result (λ r. AreInEpochs (answers_of r.0.items)) }
     ensures kept { IfOk result (λ r. Gains session r.1 (kept_of (batches_of batches.now) (answers_of r.0.items))) }
     ensures fault { IfErr result (λ e. status_of e ≢ 4 → IsBrokenOff (batches_of batches.now) e) }
@@ -144,6 +147,7 @@ fn ask_with_helpers<R: Threads + Wait + Sync, G: Gate + Sync>(
             requires one { 1 ≤ workers }
             requires workers { workers ≤ MAX_WORKERS }
             ensures each { IfOk result (λ r. AnswersBatches (batches_of batches.entry.now) (answers_of r.0.items)) }
+            ensures refused { IfOk result (λ r. All (AreCallRefusals engine.entry.now.seals) (answers_of r.0.items)) }
             ensures epochs { IfOk result (λ r. AreInEpochs (answers_of r.0.items)) }
             ensures kept { IfOk result (λ r. Gains session r.1 (kept_of (batches_of batches.entry.now) (answers_of r.0.items))) }
             ensures fault { IfErr result (λ e. status_of e ≢ 4 → IsBrokenOff (batches_of batches.entry.now) e) }
@@ -185,6 +189,7 @@ fn run_batches<R: Threads + Wait + Sync, G: Gate + Sync>(
     workers: usize,
     gate: &G,
 ) -> Result<(Vec<Answers>, Vec<Closed>), CliFault>
+    requires seals { engine.seals ≡ false }
     requires each { All (λ b. (1 ≤ length b.items) × (length b.items ≤ MAX_REQUESTS)) batches.now }
     requires one { 1 ≤ workers }
     requires workers { workers ≤ MAX_WORKERS }

@@ -1,17 +1,19 @@
 // The command `serve`: what is done before connections are accepted, and after all have ended.
 
-ghost use Rattle.std.specs.Prelude.{◌≡◌, [], Ok, IfOk, IfErr, All};
+ghost use Rattle.std.specs.Prelude.{◌≡◌, [], vec_len, Ok, IfOk, IfErr, All};
 ghost use Rattle.tl_tree.specs.Trees.{TreeValue};
 ghost use Rattle.tl_tree.specs.Reading.{tree_of_text};
 ghost use Rattle.tl_table.specs.Tables.{IsChain};
 ghost use Rattle.tl_workers.specs.Matching.{Matches};
 ghost use Rattle.tl_workers.specs.Sessions.{AreAllOf, AskForEachOnce, FindsItsWrites};
+ghost use Rattle.tl_commands.specs.Closing.{sessions_given};
 ghost use Rattle.tl_commands.specs.declared.fault.CliFault.TheVariants.{NotClosed};
 ghost use Rattle.tl_commands.specs.Faults.{status_of};
 ghost use Rattle.tl_commands.specs.Generations.{BeginsWithFile};
 ghost use Rattle.tl_commands.specs.Scripted.{core_with};
 ghost use Rattle.tl_commands.specs.Serve.{IsOpeningFault};
 
+use crate::closing::sessions_given;
 use crate::fault::CliFault;
 use crate::inputs::tree_of_file;
 use std::alloc::Global;
@@ -53,16 +55,22 @@ pub fn open_engine(alloc: Global, tree: &[u8], limit: u32) -> Result<(Engine, Su
     }
 }
 
-/// Closes an engine with the sessions of its connections. 831 if it doesn't close. Takes no memory.
+/// Closes an engine with the sessions of its connections. 831 if it doesn't close, or if they are more or fewer than it had given. Takes no memory.
 pub fn close_engine(engine: Engine, sessions: Vec<Session>) -> Result<Vec<Closed>, CliFault>
     ensures chain { IfOk result (λ r. IsChain r.items) }
     ensures ok { IfOk result (λ r. All (Matches r.items) sessions.items) }
     ensures once { IfOk result (λ r. AreAllOf r.items sessions.items → AskForEachOnce r.items sessions.items) }
     ensures writes { IfOk result (λ r. All (FindsItsWrites r.items) sessions.items) }
+    ensures given { IfOk result (λ r. vec_len sessions ≡ sessions_given r.items) }
     ensures fault { IfErr result (λ e. e ≡ NotClosed) }
 {
-    match engine.close(sessions) {
-        Ok((chain, _)) => Ok(chain),
-        Err(_) => Err(CliFault::NotClosed),
+    let count = sessions.len();
+    let Ok((chain, _)) = engine.close(sessions) else {
+        return Err(CliFault::NotClosed);
+    };
+    // A session that isn't here may have been told anything.
+    if sessions_given(&chain) as usize != count {
+        return Err(CliFault::NotClosed);
     }
+    Ok(chain)
 }

@@ -18,7 +18,7 @@ numbers_of (Store fault) = store_numbers_of fault
 
 -- 3 if the file or the disk failed, 4 if memory was refused, otherwise 1
 abbrev pub status_of : StoreRefusal → ℕ
-status_of (File file.Unopened) = 3
+status_of (File (file.Unopened hindrance)) = 3
 status_of (File file.Busy) = 3
 status_of (File file.DiskFailed) = 3
 status_of (File file.DiskFull) = 3

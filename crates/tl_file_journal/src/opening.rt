@@ -1,15 +1,17 @@
 // What a server with a store opens with.
 
-ghost use Rattle.std.specs.Prelude.{◌≡◌, ◌≢◌, ◌↔◌, [], true, Some, None, Err, IsSome, IfOk};
+ghost use Rattle.std.specs.Prelude.{◌≡◌, ◌≢◌, ◌↔◌, [], true, Some, None, Err, IsSome, IsTrue, IfOk};
 ghost use Rattle.sqlite_store.specs.FileStore.{view};
 ghost use Rattle.sqlite_trees.specs.View.{IsClean};
-ghost use Rattle.tl_core.specs.Cores.{opened};
+ghost use Rattle.tl_core.specs.Cores.{CoreValue, opened};
+ghost use Rattle.tl_core.specs.Reached.{IsReached};
 ghost use Rattle.tl_file_journal.specs.declared.refusal.StoreRefusal.TheVariants.{NoTree, HasTree};
 ghost use Rattle.tl_history.specs.declared.history.TheConstants.{MAX_EVENTS};
 ghost use Rattle.tl_ledger.specs.Contents.{Contents, no_contents, Holds};
 ghost use Rattle.tl_ledger.specs.News.{after_founding};
 ghost use Rattle.tl_ledger.specs.declared.founding.Founding.{Founding};
-ghost use Rattle.tl_store_commands.specs.Beginning.{IsFirst, TakesUp};
+ghost use Rattle.tl_store_commands.specs.Beginning.{IsFirst, BeginsWith, Resumes, TakesUp};
+ghost use Rattle.tl_store_laws.specs.Growing.{IsLedgerOf};
 
 use crate::journal::FileJournal;
 use crate::refusal::StoreRefusal;
@@ -22,8 +24,8 @@ use tl_generations::Succession;
 use tl_journal::LedgerJournal;
 use tl_procedures::Procedures;
 use tl_store::StoreFault;
-use tl_store_commands::{Beginning, Retaken, make_store, remember_keys, reopen_store};
-use tl_store_file::{Blank, Found, Rested};
+use tl_store_commands::{Beginning, Retaken, has_no_rows, make_store, remember_keys, reopen_store};
+use tl_store_file::{Found, Rested};
 use tl_tree::Tree;
 use tl_workers::Engine;
 
@@ -92,18 +94,20 @@ fn on_file(
     }
 }
 
-// A store that is made of a tree where files hold nothing yet.
+// A store that is made of a tree where files hold one without rows.
 fn make_in<D: Disk + Drop>(
     alloc: Global,
-    blank: Blank<D>,
+    rested: Rested<D>,
     tree: Tree,
 ) -> Result<Beginning<FileStore<D>>, StoreRefusal>
+    requires { IsClean (view rested.store) → Holds (view rested.store).committed no_contents }
     ensures core { IfOk result (λ b. b.core ≡ opened tree [] MAX_EVENTS) }
     ensures stored { IfOk result (λ b. (first : Founding) × IsFirst tree first
         × (IsClean (view b.ledger.store) → Holds (view b.ledger.store).committed (after_founding no_contents first))) }
+    ensures begins { IfOk result (λ b. IsClean (view b.ledger.store) → BeginsWith tree b.core (view b.ledger.store).committed) }
     ensures err { (result ≢ Err NoTree) × (result ≢ Err HasTree) }
 {
-    Ok(make_store(alloc, blank.make()?.store, tree)?)
+    Ok(make_store(alloc, rested.store, tree)?)
 }
 
 // The store that files hold, taken up again.
@@ -113,9 +117,47 @@ fn reopen_in<D: Disk + Drop>(
 ) -> Result<(Beginning<FileStore<D>>, Retaken), StoreRefusal>
     ensures taken_up { IfOk result (λ r. IsClean (view r.0.ledger.store) → (c : Contents) → Holds (view rested.store).committed c
         → TakesUp c r.0.core (view r.0.ledger.store).committed r.0.ledger.marks) }
+    ensures resumes { IfOk result (λ r. IsClean (view r.0.ledger.store) → (c : Contents) (v : CoreValue) → Holds (view rested.store).committed c → IsReached v → IsLedgerOf c v
+        → Resumes v r.0.core (view r.0.ledger.store).committed r.0.ledger.marks) }
     ensures err { (result ≢ Err NoTree) × (result ≢ Err HasTree) }
 {
     Ok(reopen_store(alloc, rested.store)?)
+}
+
+// Whether files hold a store without rows: it was made, and then a crash came, or the disk was full, before it had its first contents.
+fn is_unfounded<D: Disk + Drop>(
+    alloc: Global,
+    rested: Rested<D>,
+) -> Result<(bool, Rested<D>), StoreRefusal>
+    ensures none { IfOk result (λ r. IsTrue r.0 → IsClean (view r.1.store) → Holds (view r.1.store).committed no_contents) }
+    ensures err { (result ≢ Err NoTree) × (result ≢ Err HasTree) }
+{
+    let mut store = rested.store;
+    match has_no_rows(alloc, &mut store) {
+        Ok(is_unfounded) => Ok((is_unfounded, Rested { store })),
+        Err(name) => Err(StoreRefusal::Store(StoreFault::of_disk(name))),
+    }
+}
+
+// What a store has, or the tree where it has no rows.
+fn begin_on<D: Disk + Drop>(
+    alloc: Global,
+    rested: Rested<D>,
+    tree: Option<Tree>,
+) -> Result<(Beginning<FileStore<D>>, Option<Retaken>), StoreRefusal>
+    ensures retaken { IfOk result (λ r. IsSome r.1 ↔ (tree ≡ None)) }
+    ensures no_tree { result ≡ Err NoTree → tree ≡ None }
+    ensures has_tree { result ≡ Err HasTree → IsSome tree }
+{
+    match (is_unfounded(alloc, rested)?, tree) {
+        ((true, rested), Some(tree)) => Ok((make_in(alloc, rested, tree)?, None)),
+        ((true, _), None) => Err(StoreRefusal::NoTree),
+        ((false, _), Some(_)) => Err(StoreRefusal::HasTree),
+        ((false, rested), None) => {
+            let (begun, retaken) = reopen_in(alloc, rested)?;
+            Ok((begun, Some(retaken)))
+        }
+    }
 }
 
 // What files hold, or the tree where they hold nothing yet.
@@ -129,13 +171,9 @@ fn begin_in<D: Disk + Drop>(
     ensures has_tree { result ≡ Err HasTree → IsSome tree }
 {
     match (found, tree) {
-        (Found::Blank(blank), Some(tree)) => Ok((make_in(alloc, blank, tree)?, None)),
-        (Found::Store(rested), None) => {
-            let (begun, retaken) = reopen_in(alloc, rested)?;
-            Ok((begun, Some(retaken)))
-        }
+        (Found::Blank(blank), Some(tree)) => Ok((make_in(alloc, blank.make()?, tree)?, None)),
         (Found::Blank(_), None) => Err(StoreRefusal::NoTree),
-        (Found::Store(_), Some(_)) => Err(StoreRefusal::HasTree),
+        (Found::Store(rested), tree) => begin_on(alloc, rested, tree),
     }
 }
 

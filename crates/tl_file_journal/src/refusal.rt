@@ -52,7 +52,10 @@ impl StoreRefusal {
     {
         match self {
             StoreRefusal::File(
-                FileFault::Unopened | FileFault::Busy | FileFault::DiskFailed | FileFault::DiskFull,
+                FileFault::Unopened(_)
+                | FileFault::Busy
+                | FileFault::DiskFailed
+                | FileFault::DiskFull,
             )
             | StoreRefusal::Store(StoreFault::DiskFailed | StoreFault::DiskFull) => 3,
             StoreRefusal::File(FileFault::Memory)

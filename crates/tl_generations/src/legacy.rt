@@ -1,6 +1,7 @@
 // What a closed table leaves to the next.
 
 ghost use Rattle.std.specs.Prelude.{◌≡◌, ◌≢◌, ◌↔◌, ◌≤◌, ◌+◌, ℕ, List, [], length, map, unsigned_abs, IsTrue, IfOk, OnOk, IfErr, OnErr};
+ghost use Rattle.tl_history.specs.declared.history.TheConstants.{MAX_EVENTS};
 ghost use Rattle.tl_table.specs.Tables.{IsChain};
 ghost use Rattle.tl_procedures.specs.Names.{AreKnown};
 ghost use Rattle.tl_procedures.specs.declared.fault.ReplacingFault.TheVariants as replacing;
@@ -142,12 +143,13 @@ impl Legacy {
         self.procedures.replace_all(alloc, others)
     }
 
-    /// A core that takes this up. 690 if memory is refused.
+    /// A core that takes this up, for up to 1,048,576 events. 690 if memory is refused.
     pub fn open(&self, alloc: Global) -> Result<Core, CoreFault>
         ensures parents { IfOk result (λ core. core.seen.parents ≡ self.now.parents) }
         ensures opening { IfOk result (λ core. core.seen.opening ≡ self.now.records) }
         ensures procedures { IfOk result (λ core. core.seen.procedures ≡ self.now.procedures) }
         ensures calls { IfOk result (λ core. core.seen.calls ≡ []) }
+        ensures limit { IfOk result (λ core. core.seen.limit ≡ MAX_EVENTS) }
         ensures err { IfErr result (λ e. e ≡ CoreFault.Memory) }
     {
         let Ok(tree) = self.tree.copy(alloc) else {

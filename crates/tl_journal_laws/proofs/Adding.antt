@@ -1,25 +1,21 @@
 -- The rows of the news of an epoch.
-use Rattle.std.proofs.Common.{◌≡◌, ℕ, zero, suc, ◌+◌, ◌-◌, ◌<◌, ◌≤◌, ◌⊎◌, ◌^◌, min, ℤ, pos, Bool, true, false, List, [], ◌∷◌, ◌++◌, length, map, drop, get_or, reverse, refl, sym, ap, ap₂, ◌∙◌, subst, inl, inr, arith, Option, Some, None, slice_get, option_map, string_bytes}
+use Rattle.std.proofs.Common.{◌≡◌, ℕ, zero, suc, ◌+◌, ◌-◌, ◌<◌, ◌^◌, min, ℤ, pos, Bool, true, List, [], ◌∷◌, ◌++◌, length, map, drop, get_or, reverse, refl, sym, ap, ◌∙◌, subst, arith, Option, Some, slice_get, option_map}
 use Rattle.std.specs.Prelude.{All}
 use Rattle.std.specs.List.{flat_map, filter_map}
-use Rattle.std.proofs.lemmas.List.{append-nil, append_assoc, length-append, length-map, map-append, length-drop, length-reverse, reverse-append}
+use Rattle.std.proofs.lemmas.List.{append-nil, length-map, map-append, length-drop, length-reverse, reverse-append}
 use Rattle.indexmap.proofs.ReorderLemmas.{map-reverse}
-use Rattle.std.proofs.lemmas.List.Elements.{All-nil, All-cons, All-head, All-tail, All-append, All-same}
-use Rattle.std.proofs.lemmas.Option.{slice_get-get_or, slice_get_within, slice_get-map, get_or_from_slice_get}
+use Rattle.std.proofs.lemmas.List.Elements.{All-nil, All-cons, All-head, All-tail, All-same}
+use Rattle.std.proofs.lemmas.Option.{slice_get_within, slice_get-map, get_or_from_slice_get}
 use Rattle.std.proofs.lemmas.Grind.{flat_map-append}
-use Rattle.std.proofs.lemmas.Simd.{map-map}
 use Rattle.tl_tree_locking.specs.declared.event.Event.{Event}
 use Rattle.tl_tree_locking.specs.declared.event.Event.TheVariants.{Admit, Lock, Free, Done}
 use Rattle.tl_tree_locking.specs.History.{caller, is_done}
 use Rattle.tl_tree_locking.specs.World.{reply_of}
-use Rattle.tl_instr.specs.Codes.{IsCode}
-use Rattle.tl_verify.specs.Acceptable.{Acceptable}
-use Rattle.tl_procedures.specs.Names.{Named, no_procedure, number_of}
+use Rattle.tl_procedures.specs.Names.{number_of}
 use Rattle.tl_core.specs.Cores.{CoreValue, CallValue, no_call, call_of, world_of}
 use Rattle.tl_core.specs.Entries.{procedure_at}
 use Rattle.tl_core.specs.Reached.{IsReached}
 use Rattle.tl_json.specs.Procedures.{AreAccepted}
-use Rattle.tl_news.specs.declared.news.Answer.{Answer}
 use Rattle.tl_news.specs.declared.news.EpochNews.{EpochNews}
 use Rattle.tl_news.specs.declared.news.NewProcedure.{NewProcedure}
 use Rattle.tl_news.specs.News.{Asked, NewsValue, named, asked, news_value, events_from, calls_of, answer_at, IsEnd, news_behind, end_of}
@@ -27,16 +23,15 @@ use Rattle.tl_news.proofs.Ends.{ends_behind}
 use Rattle.tl_ledger.specs.declared.rows.CallRow.{CallRow}
 use Rattle.tl_ledger.specs.declared.rows.TurnRow.{TurnRow}
 use Rattle.tl_ledger.specs.declared.rows.ReplyRow.{ReplyRow}
-use Rattle.tl_rows.specs.Rows.{procedure_form, named_form, call_form, call_bytes, turn_bytes, all_turn_bytes, IsTurnRow, numbers_in}
+use Rattle.tl_rows.specs.Rows.{procedure_form, named_form, call_bytes, turn_bytes, all_turn_bytes, IsTurnRow}
 use Rattle.tl_rows.specs.Rows.{turn_form, reply_form}
-use Rattle.tl_store.specs.Recovered.{IsCallOf, IsReplyOf}
+use Rattle.tl_store.specs.Recovered.{IsReplyOf}
 use Rattle.tl_pending.specs.Claims.{ClaimValue}
-use Rattle.tl_pending.specs.Pendings.{column, Admitted, admitted_in, admitted_at, admitted_from, turn_forms, answer_form, new_form}
-use Rattle.tl_store_laws.specs.Later.{Later}
+use Rattle.tl_pending.specs.Pendings.{column, Admitted, admitted_in, admitted_at, admitted_from, turn_forms, answer_form, new_form, AreOfNews}
+use Rattle.tl_recover.specs.Later.{Later}
 use Rattle.tl_store_laws.specs.Growing.{IsRowOf, IsNewsOf}
-use Rattle.tl_store_laws.proofs.Stay.{calls_longer, call_stays, reply_stays}
-use Rattle.tl_store_laws.specs.Batches.{Batch}
-use Rattle.tl_journal_laws.specs.Appended.{AreOfNews}
+use Rattle.tl_store_laws.proofs.Stay.{calls_longer}
+use Rattle.tl_rows.specs.Batches.{Batch}
 use Rattle.tl_journal_laws.proofs.Own.{own_number}
 
 -- ---- lists

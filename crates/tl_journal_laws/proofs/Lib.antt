@@ -2,3 +2,6 @@ mod Own
 mod Adding
 mod Step
 mod Through
+mod Resting
+mod Replaced
+mod Widened

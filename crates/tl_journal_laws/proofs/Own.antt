@@ -1,5 +1,5 @@
 -- The number of a procedure by its own name.
-use Rattle.std.proofs.Common.{◌≡◌, ℕ, zero, suc, ◌+◌, ◌<◌, ◌≤◌, Bool, true, false, List, [], ◌∷◌, ◌++◌, length, get_or, refl, sym, ap, ◌∙◌, subst, arith, Option, Some, None, if◌then◌else◌}
+use Rattle.std.proofs.Common.{◌≡◌, ℕ, zero, suc, ◌+◌, ◌<◌, ◌≤◌, Bool, true, false, List, [], ◌∷◌, ◌++◌, length, get_or, refl, sym, ap, ◌∙◌, arith, Option, Some, None, if◌then◌else◌}
 use Rattle.std.proofs.lemmas.Grind.{common_steps}
 use Rattle.std.specs.Prelude.{position, not}
 use Rattle.std.specs.List.{position_or_len}
@@ -9,7 +9,7 @@ use Rattle.std.proofs.Math.Seq.{get_or-append_seam}
 use Rattle.std.specs.Str.{bytes_eq}
 use Rattle.std.proofs.lemmas.Slice.Eq.{bytes_eq-Decides}
 use Rattle.tl_procedures.specs.declared.fault.NamingFault.TheVariants.{BadName}
-use Rattle.tl_procedures.specs.Names.{Named, no_procedure, number_of, is_name, taken_by, naming_refusal, AreFreeAfter}
+use Rattle.tl_procedures.specs.Names.{Named, no_procedure, number_of, is_name, taken_by, AreFreeAfter}
 
 unnumbered : (b : Bool) (o : Option ℕ) (n : ℕ) → (if b then taken_by o n else Some BadName) ≡ None → o ≡ None
 unnumbered true (Some k) n h = absurd cc

@@ -1,7 +1,7 @@
 -- The pending rows, one epoch further.
-use Rattle.std.proofs.Common.{◌≡◌, ℕ, zero, suc, ◌+◌, ◌-◌, ◌<◌, ◌≤◌, ◌^◌, min, ℤ, pos, Bool, true, false, List, [], ◌∷◌, ◌++◌, length, map, refl, sym, ap, ap₂, ◌∙◌, subst, arith, Option, Some, None, option_map, if◌then◌else◌}
+use Rattle.std.proofs.Common.{◌≡◌, ℕ, ◌+◌, ◌-◌, ◌<◌, ◌^◌, min, pos, Bool, true, false, List, [], ◌∷◌, ◌++◌, length, map, sym, ap, ◌∙◌, subst, arith, Option, Some, None, option_map}
 use Rattle.std.specs.Prelude.{All}
-use Rattle.std.proofs.lemmas.List.{append-nil, append_assoc, length-append, length-map, map-append}
+use Rattle.std.proofs.lemmas.List.{append-nil, length-append, length-map}
 use Rattle.std.proofs.lemmas.List.Elements.{All-append, All-nil}
 use Rattle.tl_tree.specs.Records.{Records}
 use Rattle.tl_tree_locking.specs.History.{records_now}
@@ -13,22 +13,21 @@ use Rattle.tl_news.specs.declared.news.EpochNews.{EpochNews}
 use Rattle.tl_news.specs.News.{NewsValue, named, news_value, news_behind, end_of}
 use Rattle.tl_ledger.specs.declared.committing.Marks.{Marks}
 use Rattle.tl_ledger.specs.declared.rows.ChangedRecord.{ChangedRecord}
-use Rattle.tl_ledger.specs.declared.rows.RecordRow.{RecordRow}
 use Rattle.tl_ledger.specs.declared.schema.TheConstants.{NODE, RECORD, PROCEDURE, CALL, TURN, REPLY, SEAL}
 use Rattle.tl_ledger.specs.Contents.{Contents}
 use Rattle.tl_rows.specs.Rows.{fields_in}
-use Rattle.tl_ledger.specs.News.{IsMarked, node_columns, new_columns, record_columns, procedure_columns, call_columns, turn_columns, reply_columns, seal_columns, with_changes}
-use Rattle.tl_rows.specs.Changes.{Leads, IsChange}
+use Rattle.tl_ledger.specs.News.{IsMarked, node_columns, new_columns, record_columns, procedure_columns, call_columns, turn_columns, reply_columns, seal_columns}
+use Rattle.tl_rows.specs.Changes.{Leads}
 use Rattle.tl_pending.specs.declared.pending.Pending.{Pending}
-use Rattle.tl_pending.specs.Pendings.{column, more, counted, seal_after}
-use Rattle.tl_store_laws.specs.Later.{Later}
-use Rattle.tl_store_laws.specs.Batches.{Batch, batch_of, joined, after_batch}
+use Rattle.tl_pending.specs.Pendings.{column, more, counted, seal_after, HasSeal, Adds}
+use Rattle.tl_recover.specs.Later.{Later}
+use Rattle.tl_rows.specs.Batches.{Batch, batch_of, after_batch}
 use Rattle.tl_store_laws.specs.Growing.{IsLedgerOf, IsNewsOf, IsSealOf, IsLastNewsOf}
 use Rattle.tl_store_laws.proofs.Grow.{ledger_grows}
 use Rattle.tl_store_laws.proofs.Seal.{ledger_seals}
 use Rattle.tl_store_laws.proofs.Leading.{changes_long}
 use Rattle.tl_store_laws.proofs.Again.{ledger_joined, marked_joined}
-use Rattle.tl_journal_laws.specs.Appended.{AreOfNews, HasSeal, Appends, AreFew, IsPendingOf, core_after}
+use Rattle.tl_journal_laws.specs.Unstored.{AreFew, IsPendingOf}
 use Rattle.tl_journal_laws.proofs.Adding.{news_now, procedures_now, new_now, count_procedures, count_calls, count_turns, count_replies}
 
 longer : {A B : Type 0} (f : A → B) (before : List B) (xs : List A) (n k m : ℕ) → length before ≡ n → length xs ≡ k → n + k ≡ m → length (before ++ map f xs) ≡ m
@@ -43,8 +42,23 @@ plain n small = let fits : min n (2 ^ 63 - 1) ≡ n = omega arith in ap pos fits
 sum : (n k : ℕ) → n + k < 2 ^ 63 → n + k ≡ more n k
 sum n k small = omega arith
 
+-- with the seal there are at least as many rows as without it
+pub few_counted : (left : Option Records) (rows : Marks) (b : Batch) (old new : Pending) → HasSeal left rows b old new → AreFew new.rows → AreFew rows
+few_counted None rows b old new seal few = subst AreFew seal.3 few
+few_counted (Some now) rows b old new seal few =
+    let all = seal.3 in record {
+      procedures = subst (λ n. n < 2 ^ 62) (ap (λ (m : Marks). m.procedures) all) few.procedures;
+      calls = subst (λ n. n < 2 ^ 62) (ap (λ (m : Marks). m.calls) all) few.calls;
+      turns = subst (λ n. n < 2 ^ 62) (ap (λ (m : Marks). m.turns) all) few.turns;
+      replies = subst (λ n. n < 2 ^ 62) (ap (λ (m : Marks). m.replies) all) few.replies;
+      seals = let one = ap (λ (m : Marks). m.seals) all in let few_seals = few.seals in omega (arith, one, few_seals);
+    }
+
 module _ (c : Contents) (v w : CoreValue) (number : ℕ) (owners : List ℕ) (came : EpochNews) (old new : Pending) (pending : IsPendingOf c old v) (later : Later v w) (reached : IsReached w)
-    (each : length owners ≡ length w.calls) (few : AreFew old.rows came) (accepted : AreAccepted (map named came.procedures.items)) (appends : Appends came old new) where
+    (each : length owners ≡ length w.calls) (few : AreFew new.rows) (accepted : AreAccepted (map named came.procedures.items)) (appends : Adds came old new) where
+  enough : AreFew (counted came old.rows)
+  enough = few_counted (option_map (λ x. x.items) came.records) (counted came old.rows) appends.rows old new appends.seal few
+
   abbrev before : Contents
   before = after_batch c (batch_of old.news)
 
@@ -58,7 +72,7 @@ module _ (c : Contents) (v w : CoreValue) (number : ℕ) (owners : List ℕ) (ca
   seals_are = pending.marked.seals
 
   small : old.rows.seals < 2 ^ 62
-  small = let f = few.seals in omega (arith, f)
+  small = let f = enough.seals in omega (arith, f)
 
   marked_all : (m : Marks) → IsMarked twice m → IsMarked (after_batch c (batch_of new.news)) m
   marked_all m there = subst (λ x. IsMarked (after_batch c x) m) (sym appends.all) (marked_joined c (batch_of old.news) b m pending.inside there)
@@ -84,16 +98,16 @@ module _ (c : Contents) (v w : CoreValue) (number : ℕ) (owners : List ℕ) (ca
     as_many_replies = count_replies v w number owners over came old.claims.items old.rows.seals b later reached each small accepted is appends.of
 
     now_procedures : length (twice PROCEDURE) ≡ (counted came old.rows).procedures
-    now_procedures = longer procedure_columns (before PROCEDURE) b.procedures old.rows.procedures (length came.procedures.items) _ pending.marked.procedures as_many_procedures (let f = few.procedures in sum old.rows.procedures (length came.procedures.items) (omega (arith, f)))
+    now_procedures = longer procedure_columns (before PROCEDURE) b.procedures old.rows.procedures (length came.procedures.items) _ pending.marked.procedures as_many_procedures (let f = enough.procedures in sum old.rows.procedures (length came.procedures.items) (omega (arith, f)))
 
     now_calls : length (twice CALL) ≡ (counted came old.rows).calls
-    now_calls = longer call_columns (before CALL) b.calls old.rows.calls (length came.calls.items) _ pending.marked.calls as_many_calls (let f = few.calls in sum old.rows.calls (length came.calls.items) (omega (arith, f)))
+    now_calls = longer call_columns (before CALL) b.calls old.rows.calls (length came.calls.items) _ pending.marked.calls as_many_calls (let f = enough.calls in sum old.rows.calls (length came.calls.items) (omega (arith, f)))
 
     now_turns : length (twice TURN) ≡ (counted came old.rows).turns
-    now_turns = longer turn_columns (before TURN) b.turns old.rows.turns (min (length came.turns.items) 1) _ pending.marked.turns as_many_turns (let f = few.turns in sum old.rows.turns (min (length came.turns.items) 1) (omega (arith, f)))
+    now_turns = longer turn_columns (before TURN) b.turns old.rows.turns (min (length came.turns.items) 1) _ pending.marked.turns as_many_turns (let f = enough.turns in sum old.rows.turns (min (length came.turns.items) 1) (omega (arith, f)))
 
     now_replies : length (twice REPLY) ≡ (counted came old.rows).replies
-    now_replies = longer reply_columns (before REPLY) b.replies old.rows.replies (length came.answers.items) _ pending.marked.replies as_many_replies (let f = few.replies in sum old.rows.replies (length came.answers.items) (omega (arith, f)))
+    now_replies = longer reply_columns (before REPLY) b.replies old.rows.replies (length came.answers.items) _ pending.marked.replies as_many_replies (let f = enough.replies in sum old.rows.replies (length came.answers.items) (omega (arith, f)))
 
     now_nodes : length (twice NODE) ≡ old.rows.nodes
     now_nodes = ap (λ l. length (before NODE ++ map node_columns l)) appends.of.nodes ∙ ap length (append-nil (before NODE)) ∙ pending.marked.nodes
@@ -174,10 +188,10 @@ module _ (c : Contents) (v w : CoreValue) (number : ℕ) (owners : List ℕ) (ca
     seal_is = record {
       seal = seal_after (counted came old.rows);
       seals = has_seal.0;
-      procedures = plain (counted came old.rows).procedures (let f = few.procedures in omega (arith, f)) ∙ ap pos (behind procedure_columns (before PROCEDURE) b.procedures _ (now_procedures true is));
-      calls = plain (counted came old.rows).calls (let f = few.calls in omega (arith, f)) ∙ ap pos (behind call_columns (before CALL) b.calls _ (now_calls true is));
-      turns = plain (counted came old.rows).turns (let f = few.turns in omega (arith, f)) ∙ ap pos (behind turn_columns (before TURN) b.turns _ (now_turns true is));
-      replies = plain (counted came old.rows).replies (let f = few.replies in omega (arith, f)) ∙ ap pos (behind reply_columns (before REPLY) b.replies _ (now_replies true is));
+      procedures = plain (counted came old.rows).procedures (let f = enough.procedures in omega (arith, f)) ∙ ap pos (behind procedure_columns (before PROCEDURE) b.procedures _ (now_procedures true is));
+      calls = plain (counted came old.rows).calls (let f = enough.calls in omega (arith, f)) ∙ ap pos (behind call_columns (before CALL) b.calls _ (now_calls true is));
+      turns = plain (counted came old.rows).turns (let f = enough.turns in omega (arith, f)) ∙ ap pos (behind turn_columns (before TURN) b.turns _ (now_turns true is));
+      replies = plain (counted came old.rows).replies (let f = enough.replies in omega (arith, f)) ∙ ap pos (behind reply_columns (before REPLY) b.replies _ (now_replies true is));
       records = leads;
     }
 
@@ -194,7 +208,7 @@ module _ (c : Contents) (v w : CoreValue) (number : ℕ) (owners : List ℕ) (ca
     marked_closed : IsMarked twice new.rows
     marked_closed =
         let rows = has_seal.3 in
-        let one : old.rows.seals + 1 ≡ more old.rows.seals 1 = (let f = few.seals in omega (arith, f)) in
+        let one : old.rows.seals + 1 ≡ more old.rows.seals 1 = (let f = enough.seals in omega (arith, f)) in
         let long : length (before SEAL ++ map seal_columns b.seals) ≡ old.rows.seals + 1 =
         ap (λ l. length (before SEAL ++ map seal_columns l)) has_seal.0 ∙ length-append (before SEAL) (seal_columns (seal_after (counted came old.rows)) ∷ []) ∙ ap (λ k. k + 1) seals_are in
         marked_as true is new.rows (ap (λ (m : Marks). m.nodes) rows) (ap (λ (m : Marks). m.procedures) rows) (ap (λ (m : Marks). m.calls) rows) (ap (λ (m : Marks). m.turns) rows)

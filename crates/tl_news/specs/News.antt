@@ -1,5 +1,5 @@
 -- What has happened in a table since it was last read.
-use Rattle.std.specs.Prelude.{ℕ, ◌<◌, ◌≡◌, Bool, true, false, List, [], ◌∷◌, map, drop, length, reverse, get_or, Option, Some, None, option_map, if◌then◌else◌, string_bytes, ℤ}
+use Rattle.std.specs.Prelude.{ℕ, ◌<◌, ◌≡◌, Bool, true, false, List, [], ◌∷◌, ◌++◌, map, drop, length, reverse, get_or, Option, Some, None, option_map, if◌then◌else◌, string_bytes, ℤ}
 use Rattle.std.specs.List.{filter_map}
 use Rattle.std.specs.Arc.{arc_value}
 use Rattle.tl_tree.specs.Records.{Records}
@@ -10,6 +10,8 @@ use Rattle.tl_tree_locking.specs.World.{reply_of}
 use Rattle.tl_procedures.specs.Names.{Named}
 use Rattle.tl_core.specs.Cores.{CallValue, CoreValue, world_of}
 use Rattle.tl_core.specs.Entries.{procedure_at}
+use Rattle.tl_core.specs.Reached.{IsReached}
+use Rattle.tl_json.specs.Procedures.{AreAccepted}
 use Rattle.tl_table.specs.Epochs.{EpochValue, seen}
 use Rattle.tl_table.specs.Tables.{TableValue}
 use Rattle.tl_news.specs.declared.mark.Place.{Place}
@@ -54,6 +56,10 @@ news_value n = record {
   answers = n.answers.items;
   records = option_map (λ v. v.items) n.records;
 }
+
+-- each of the new procedures has an accepted code
+abbrev pub HasAccepted : EpochNews → Type 0
+HasAccepted n = AreAccepted (map named n.procedures.items)
 
 -- ---- of an epoch
 
@@ -109,6 +115,15 @@ abbrev pub news_through : Bool → Place → List EpochValue → EpochValue → 
 news_through is_over place [] current = news_behind place current.number (seen current) current.owners is_over ∷ []
 news_through is_over place (e ∷ es) current =
     news_behind place e.number (seen e) e.owners true ∷ news_through is_over (start_after (seen e)) es current
+
+-- the epochs of a table that weren't read to their ends before the mark
+abbrev pub unread : TableValue → Mark → List EpochValue
+unread t m = drop m.epochs t.sealed ++ t.current ∷ []
+
+-- The epoch's core was reached as every core is, and each of its calls has a session.
+pub record IsWhole (e : EpochValue) : Type 0 where
+  pub reached : IsReached (seen e)
+  pub owned : length e.owners ≡ length (seen e).calls
 
 -- the news of a table since the mark; `is_over` says whether the current epoch is over too
 abbrev pub news_since : Bool → TableValue → Mark → List NewsValue

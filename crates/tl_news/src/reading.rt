@@ -1,9 +1,14 @@
 // A table, read from a mark on.
 
-ghost use Rattle.std.specs.Prelude.{◌≡◌, ◌<◌, All, map, drop, length, reverse, option_map, if◌then◌else◌, Some, None, IfOk};
+ghost use Rattle.std.specs.Prelude.{◌≡◌, ◌<◌, All, map, drop, length, reverse, option_map, if◌then◌else◌, Some, None, IfOk, OnOk};
+ghost use Rattle.std.specs.Arc.{arc_value};
 ghost use Rattle.std.specs.List.{filter_map};
 ghost use Rattle.tl_tree_locking.specs.History.{caller, records_now};
-ghost use Rattle.tl_news.specs.News.{named, asked, news_value, events_from, calls_of, answer_at, IsEnd, news_behind, news_since, mark_after};
+ghost use Rattle.tl_core.specs.Reached.{IsReached};
+ghost use Rattle.tl_instr.specs.Codes.{IsCode};
+ghost use Rattle.tl_json.specs.Procedures.{AreAccepted};
+ghost use Rattle.tl_verify.specs.Acceptable.{Acceptable};
+ghost use Rattle.tl_news.specs.News.{named, asked, news_value, HasAccepted, events_from, calls_of, answer_at, IsEnd, news_behind, unread, IsWhole, news_since, mark_after};
 
 use crate::mark::{Mark, Place};
 use crate::news::{Answer, EpochNews, NewCall, NewProcedure, TableNews};
@@ -14,6 +19,7 @@ use tl_procedures::{Procedures, Request};
 use tl_table::Table;
 use tl_tree::Record;
 use tl_tree_locking::Event;
+use tl_verify::Proc;
 
 // The items behind the first ones.
 #[tactic(auto, using(std::proofs::lemmas::List::drop_min))]
@@ -33,20 +39,36 @@ fn events_behind(core: &Core, first: usize) -> &[Event]
     behind(core.history().events(), first)
 }
 
+// A procedure under its name. Its code is valid and accepted, as each procedure's is.
+fn new_procedure(
+    alloc: Global,
+    name: &str,
+    procedure: &Arc<Proc>,
+) -> Result<NewProcedure, AllocError>
+    ensures named { IfOk result (λ p. named p ≡ record { name = name.now; code = arc_value procedure.now }) }
+    ensures code { IsCode (arc_value procedure.now) }
+    ensures accepted { Acceptable (arc_value procedure.now).instrs }
+{
+    let _code = procedure.code();
+    Ok(NewProcedure {
+        name: String::from_str(alloc, name)?,
+        procedure: Arc::try_clone(procedure)?,
+    })
+}
+
 // The procedures behind the first ones.
 fn procedures_behind(
     alloc: Global,
     procedures: &Procedures,
     first: usize,
 ) -> Result<Vec<NewProcedure>, AllocError>
-    ensures { IfOk result (λ v. map named v.items ≡ drop first procedures.now) }
+    ensures procedures { IfOk result (λ v. map named v.items ≡ drop first procedures.now) }
+    ensures accepted { IfOk result (λ v. AreAccepted (map named v.items)) }
 {
     let mut found = Vec::new(alloc);
     for number in first..procedures.len() {
-        found.push(NewProcedure {
-            name: String::from_str(alloc, procedures.name(number as u32))?,
-            procedure: Arc::try_clone(procedures.get(number as u32))?,
-        })?;
+        let number = number as u32;
+        found.push(new_procedure(alloc, procedures.name(number), procedures.get(number))?)?;
     }
     Ok(found)
 }
@@ -155,8 +177,11 @@ fn epoch_news(
     is_over: bool,
 ) -> Result<EpochNews, AllocError>
     requires { length owners.now ≡ length core.now.seen.calls }
-    ensures { IfOk result (λ n. news_value n ≡ news_behind place.now number core.now.seen owners.now is_over) }
+    ensures news { IfOk result (λ n. news_value n ≡ news_behind place.now number core.now.seen owners.now is_over) }
+    ensures accepted { IfOk result (λ n. HasAccepted n) }
+    ensures reached { IsReached core.now.seen }
 {
+    core.lemma_is_reached();
     let events = events_behind(core, place.events);
     Ok(EpochNews {
         epoch: number,
@@ -196,6 +221,8 @@ pub fn news_since(
 ) -> Result<TableNews, AllocError>
     ensures news { IfOk result (λ n. map news_value n.epochs.items ≡ news_since is_over table.now mark.now) }
     ensures mark { IfOk result (λ n. n.mark ≡ mark_after is_over table.now) }
+    ensures accepted { IfOk result (λ n. All HasAccepted n.epochs.items) }
+    ensures whole { OnOk result (All IsWhole (unread table.now mark.now)) }
 {
     let mut epochs = Vec::new(alloc);
     let mut place = mark.place;

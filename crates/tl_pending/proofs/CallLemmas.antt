@@ -1,11 +1,12 @@
 -- Calls that are numbered from a first one on.
-use Rattle.std.proofs.Common.{◌≡◌, ℕ, suc, ◌+◌, ◌-◌, ◌^◌, min, ℤ, pos, List, [], ◌∷◌, ◌++◌, length, map, take, get_or, Some, ◌<◌, ap, ◌∙◌, sym, arith}
-use Rattle.std.proofs.lemmas.List.{take_more, append_assoc, map-append, length-map, length-take-le}
+use Rattle.std.proofs.Common.{◌≡◌, ℕ, suc, ◌+◌, ◌-◌, ◌^◌, min, ℤ, pos, List, [], ◌∷◌, ◌++◌, length, map, take, get_or, Some, ◌<◌, ap, ◌∙◌, sym, subst, arith}
+use Rattle.std.proofs.lemmas.List.{take_more, map-append, length-map, length-take-le}
 use Rattle.tl_news.specs.declared.news.NewCall.{NewCall}
 use Rattle.tl_news.specs.News.{Asked, asked}
 use Rattle.tl_ledger.specs.declared.rows.CallRow.{CallRow}
 use Rattle.tl_pending.specs.Claims.{ClaimValue, key_of}
-use Rattle.tl_pending.specs.Pendings.{column, more, admitted_in, admitted_at, admitted_from}
+use Rattle.tl_pending.specs.Pendings.{column, more, admitted_in, admitted_at, admitted_from, Appends}
+use Rattle.tl_pending.proofs.AppendedLemmas.{one_more}
 
 -- one more call
 pub admitted_more : (claims : List ClaimValue) (epoch : ℤ) (first : ℕ) (calls : List Asked) (a : Asked)
@@ -27,8 +28,8 @@ column_more rows count =
 -- the row of the next request
 pub request_more : (claims : List ClaimValue) (epoch : ℤ) (first index number : ℕ) (requests : List NewCall) (r : NewCall) (row : CallRow) (old rows : List CallRow)
     → index < length requests → r ≡ get_or requests index r → number ≡ more first index → admitted_in row ≡ admitted_at claims epoch number (asked r)
-    → map admitted_in rows ≡ map admitted_in old ++ admitted_from claims epoch first (map asked (take index requests))
-    → map admitted_in (rows ++ row ∷ []) ≡ map admitted_in old ++ admitted_from claims epoch first (map asked (take (index + 1) requests))
+    → Appends admitted_in (admitted_from claims epoch first (map asked (take index requests))) old rows
+    → Appends admitted_in (admitted_from claims epoch first (map asked (take (index + 1) requests))) old (rows ++ row ∷ [])
 request_more claims epoch first index number requests r row old rows inside is counts asks so_far =
     let before = map asked (take index requests) in
     let taken : take (index + 1) requests ≡ take index requests ++ r ∷ [] = take_more requests index r inside ∙ ap (λ x. take index requests ++ x ∷ []) (sym is) in
@@ -36,8 +37,7 @@ request_more claims epoch first index number requests r row old rows inside is c
     let numbers : column number ≡ column (first + length before) = ap column counts ∙ column_more first index ∙ ap (λ n. column (first + n)) (sym places) in
     let here : admitted_in row ≡ admitted_at claims epoch (first + length before) (asked r) =
     asks ∙ ap (λ n. record { epoch = epoch; number = n; asks = ((asked r).name, Some (asked r).args); key = key_of claims (asked r).session }) numbers in
-    map-append admitted_in rows (row ∷ []) ∙ ap (λ l. l ++ admitted_in row ∷ []) so_far
-    ∙ append_assoc (map admitted_in old) (admitted_from claims epoch first before) (admitted_in row ∷ [])
-    ∙ ap (λ l. map admitted_in old ++ l)
-    (ap (λ x. admitted_from claims epoch first before ++ x ∷ []) here ∙ sym (admitted_more claims epoch first before (asked r))
-    ∙ ap (admitted_from claims epoch first) (sym (map-append asked (take index requests) (r ∷ [])) ∙ ap (map asked) (sym taken)))
+    let next : admitted_from claims epoch first before ++ admitted_at claims epoch (first + length before) (asked r) ∷ [] ≡ admitted_from claims epoch first (map asked (take (index + 1) requests)) =
+    sym (admitted_more claims epoch first before (asked r)) ∙ ap (admitted_from claims epoch first) (sym (map-append asked (take index requests) (r ∷ [])) ∙ ap (map asked) (sym taken)) in
+    subst (λ forms. Appends admitted_in forms old (rows ++ row ∷ [])) next
+    (one_more admitted_in (admitted_from claims epoch first before) row (admitted_at claims epoch (first + length before) (asked r)) old rows here so_far)

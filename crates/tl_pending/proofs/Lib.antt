@@ -1,2 +1,3 @@
+pub mod AppendedLemmas
 pub mod AddedLemmas
 pub mod CallLemmas

@@ -11,10 +11,10 @@ use Rattle.tl_news.specs.News.{Asked, named, asked}
 use Rattle.tl_ledger.specs.declared.news.News.{News}
 use Rattle.tl_ledger.specs.declared.rows.NodeRow.{NodeRow}
 use Rattle.tl_ledger.specs.declared.rows.CallRow.{CallRow}
-use Rattle.tl_ledger.specs.declared.rows.ChangedRecord.{ChangedRecord}
 use Rattle.tl_ledger.specs.declared.rows.SealRow.{SealRow}
 use Rattle.tl_ledger.specs.declared.committing.Marks.{Marks}
 use Rattle.tl_pending.specs.declared.pending.Pending.{Pending}
+use Rattle.tl_rows.specs.Batches.{Batch, batch_of, joined}
 use Rattle.tl_rows.specs.Changes.{Leads}
 use Rattle.tl_pending.specs.Claims.{ClaimValue, key_of, Learns}
 use Rattle.tl_rows.specs.Rows.{procedure_form, named_form, call_form, call_key, turn_bytes, turn_form, reply_form}
@@ -78,29 +78,33 @@ counted came rows = record {
   seals = rows.seals;
 }
 
--- If the epoch is over, there are changes from the records at the last seal to those at this one, and the seal's row has
--- the numbers of rows. If it isn't over, there is no seal.
-abbrev pub Seals : Option Records → Marks → Pending → Pending → Type 0
-Seals None rows old new =
-    (new.news.seals.items ≡ old.news.seals.items) × (new.news.records.items ≡ old.news.records.items)
-    × (new.records.items ≡ old.records.items) × (new.rows ≡ rows)
-Seals (Some now) rows old new =
-    (new.news.seals.items ≡ old.news.seals.items ++ seal_after rows ∷ [])
-    × ((changes : List ChangedRecord) × Leads old.records.items now changes × (new.news.records.items ≡ old.news.records.items ++ changes))
-    × (new.records.items ≡ now) × (new.rows ≡ record rows { seals = more rows.seals 1 })
+-- rows of these forms were appended to the old ones
+abbrev pub Appends : {A B : Type 0} → (A → B) → List B → List A → List A → Type 0
+Appends form forms old new = (rows : List _) × (new ≡ old ++ rows) × (map form rows ≡ forms)
 
--- The news of an epoch was added: its procedures, its calls from the first one on, each with the key that its session has claimed, its turns and its
--- replies, which are remembered under such keys; if it is over, also its seal and the records that changed. The epoch's number in the store is the
--- number of seals before its own.
+-- the rows are those of the news of an epoch, without its seal: its procedures, its calls from the first one on, each with the key that its session
+-- has claimed, its turns and its replies
+pub record AreOfNews (claims : List ClaimValue) (epoch : ℕ) (came : EpochNews) (b : Batch) : Type 0 where
+  pub nodes : b.nodes ≡ []
+  pub procedures : map procedure_form b.procedures ≡ map new_form came.procedures.items
+  pub calls : map admitted_in b.calls ≡ admitted_from claims (column epoch) came.first_call (map asked came.calls.items)
+  pub turns : map turn_form b.turns ≡ turn_forms (column epoch) came.turns.items
+  pub replies : map reply_form b.replies ≡ map (answer_form (column epoch)) came.answers.items
+
+-- If the epoch is over, there is its seal, which has the numbers of rows, and changes that lead from the records at the last seal to those at this one.
+-- If it isn't over, there is no seal.
+abbrev pub HasSeal : Option Records → Marks → Batch → Pending → Pending → Type 0
+HasSeal None rows b old new = (b.seals ≡ []) × (b.records ≡ []) × (new.records.items ≡ old.records.items) × (new.rows ≡ rows)
+HasSeal (Some now) rows b old new =
+    (b.seals ≡ seal_after rows ∷ []) × Leads old.records.items now b.records × (new.records.items ≡ now) × (new.rows ≡ record rows { seals = more rows.seals 1 })
+
+-- The news of an epoch was added: rows were appended, which are its own and, if it is over, its seal. Its replies are remembered under the keys of their
+-- calls. The epoch's number in the store is the number of seals before its own.
 pub record Adds (came : EpochNews) (old new : Pending) : Type 0 where
-  pub nodes : new.news.nodes.items ≡ old.news.nodes.items
-  pub procedures : map procedure_form new.news.procedures.items ≡ map procedure_form old.news.procedures.items ++ map new_form came.procedures.items
-  pub calls : map admitted_in new.news.calls.items
-      ≡ map admitted_in old.news.calls.items ++ admitted_from old.claims.items (column old.rows.seals) came.first_call (map asked came.calls.items)
-  pub turns : map turn_form new.news.turns.items ≡ map turn_form old.news.turns.items ++ turn_forms (column old.rows.seals) came.turns.items
-  pub replies : map reply_form new.news.replies.items
-      ≡ map reply_form old.news.replies.items ++ map (answer_form (column old.rows.seals)) came.answers.items
-  pub seal : Seals (option_map (λ v. v.items) came.records) (counted came old.rows) old new
+  pub rows : Batch
+  pub all : batch_of new.news ≡ joined (batch_of old.news) rows
+  pub of : AreOfNews old.claims.items old.rows.seals came rows
+  pub seal : HasSeal (option_map (λ v. v.items) came.records) (counted came old.rows) rows old new
   pub learns : Learns old.claims.items (column old.rows.seals) came.answers.items old.index new.index
   pub claims : new.claims ≡ old.claims
   pub mark : new.mark ≡ old.mark
@@ -133,7 +137,7 @@ node_of epoch parent = record { parent = parent; epoch = epoch }
 
 -- these procedures took the place of those with their names, at the start of the epoch that isn't over
 pub record Replaces (others : List Named) (old new : Pending) : Type 0 where
-  pub procedures : map procedure_form new.news.procedures.items ≡ map procedure_form old.news.procedures.items ++ map named_form others
+  pub procedures : Appends procedure_form (map named_form others) old.news.procedures.items new.news.procedures.items
   pub news : new.news ≡ record old.news { procedures = new.news.procedures }
   pub rows : new.rows ≡ record old.rows { procedures = more old.rows.procedures (length others) }
   pub rest : new ≡ record old { news = new.news; rows = new.rows }

@@ -8,7 +8,7 @@ ghost use Rattle.tl_news.specs.News.{asked};
 ghost use Rattle.tl_pending.specs.Claims.{key_of, LearnsUnder, Learns, kept_of};
 ghost use Rattle.tl_rows.specs.Changes.{Leads};
 ghost use Rattle.tl_rows.specs.Rows.{named_form, procedure_form, turn_form, reply_form};
-ghost use Rattle.tl_pending.specs.Pendings.{column, more, counted, seal_after, new_form, admitted_in, admitted_at, admitted_from, turn_forms, answer_form, node_of, start, Adds, AddsAll, Replaces, Grows, IsEmpty};
+ghost use Rattle.tl_pending.specs.Pendings.{column, more, counted, seal_after, new_form, admitted_in, admitted_at, admitted_from, turn_forms, answer_form, node_of, start, Appends, Adds, AddsAll, Replaces, Grows, IsEmpty};
 
 use crate::claims;
 use crate::claims::{Claimed, key_of};
@@ -87,7 +87,7 @@ fn push_procedures(
     rows: &mut Vec<ProcedureRow>,
     procedures: &[NewProcedure],
 ) -> Result<(), AllocError>
-    ensures { OnOk result (map procedure_form rows.new.items ≡ map procedure_form rows.old.items ++ map new_form procedures.now) }
+    ensures { OnOk result (Appends procedure_form (map new_form procedures.now) rows.old.items rows.new.items) }
 {
     for new in procedures {
         rows.push(procedure_row(alloc, new.name.as_str(), &new.procedure)?)?;
@@ -102,7 +102,7 @@ fn push_all(
     rows: &mut Vec<ProcedureRow>,
     others: &Procedures,
 ) -> Result<(), AllocError>
-    ensures { OnOk result (map procedure_form rows.new.items ≡ map procedure_form rows.old.items ++ map named_form others.now) }
+    ensures { OnOk result (Appends procedure_form (map named_form others.now) rows.old.items rows.new.items) }
 {
     for number in 0..others.len() as u32 {
         rows.push(procedure_row(alloc, others.name(number), others.get(number))?)?;
@@ -135,7 +135,7 @@ fn push_calls(
     first: usize,
     calls: &[NewCall],
 ) -> Result<(), AllocError>
-    ensures { OnOk result (map admitted_in rows.new.items ≡ map admitted_in rows.old.items ++ admitted_from claims.now epoch first (map asked calls.now)) }
+    ensures { OnOk result (Appends admitted_in (admitted_from claims.now epoch first (map asked calls.now)) rows.old.items rows.new.items) }
 {
     for index in 0..calls.len() {
         let number = more(first as u64, index);
@@ -151,7 +151,7 @@ fn push_turns(
     epoch: i64,
     turns: &[u32],
 ) -> Result<(), AllocError>
-    ensures { OnOk result (map turn_form rows.new.items ≡ map turn_form rows.old.items ++ turn_forms epoch turns.now) }
+    ensures { OnOk result (Appends turn_form (turn_forms epoch turns.now) rows.old.items rows.new.items) }
 {
     if turns.is_empty() {
         return Ok(());
@@ -167,7 +167,7 @@ fn push_replies(
     epoch: i64,
     answers: &[Answer],
 ) -> Result<(), AllocError>
-    ensures { OnOk result (map reply_form rows.new.items ≡ map reply_form rows.old.items ++ map (answer_form epoch) answers.now) }
+    ensures { OnOk result (Appends reply_form (map (answer_form epoch) answers.now) rows.old.items rows.new.items) }
 {
     for answer in answers {
         let call = i64::from(answer.call);

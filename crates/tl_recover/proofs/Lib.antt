@@ -2,3 +2,4 @@ mod Turns
 mod SameTurns
 pub mod Retaken
 mod Finished
+pub mod LaterCores

@@ -97,17 +97,24 @@ module _ (v w : CoreValue) (requests : List Request) (parents : w.parents ≡ v.
   abbrev is_w : IsAsked w c request.0
   is_w = asked_w.each c request.0 known_w request.1
 
-  pub same_code : (call_of v c).code ≡ (call_of w c).code
-  same_code =
+  pub same_procedure : (call_of v c).procedure ≡ (call_of w c).procedure
+  same_procedure =
       let named : Some (call_of v c).procedure ≡ Some (call_of w c).procedure =
       sym is_v.procedure ∙ ap (λ l. number_of l (string_bytes request.0.name)) (sym procedures) ∙ is_w.procedure in
-      let number : (call_of v c).procedure ≡ (call_of w c).procedure = cc in
+      cc
+
+  pub same_code : (call_of v c).code ≡ (call_of w c).code
+  same_code =
+      let number = same_procedure in
       is_v.code ∙ ap (λ p. (procedure_at v p).code) number ∙ ap (λ l. (get_or l (call_of w c).procedure no_procedure).code) (sym procedures) ∙ sym is_w.code
+
+  pub same_args : (call_of v c).args ≡ (call_of w c).args
+  same_args = is_v.args ∙ sym is_w.args
 
   pub same_meaning : (world_of v).meanings c ≡ (world_of w).meanings c
   same_meaning =
       let code = same_code in
-      let args : (call_of v c).args ≡ (call_of w c).args = is_v.args ∙ sym is_w.args in
+      let args = same_args in
       let shape = sym parents in
       λ i. meaning (code i).instrs (shape i) (args i)
 

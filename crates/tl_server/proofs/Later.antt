@@ -21,7 +21,7 @@ use Rattle.tl_server.specs.Answers.{line_text, error_text, one_text, kept_text, 
 use Rattle.tl_server.specs.Requests.{LineValue, Registers, RegistersText, Replaces, Calls, CallsOnce, Batches, Grows, Seals, Closes, line_view}
 use Rattle.tl_server.specs.declared.request.LineRequest.{LineRequest}
 use Rattle.tl_server.specs.declared.request.LineRequest.TheVariants.{Register, RegisterText, Replace, Call, CallOnce, Batch, Grow, Seal, Close}
-use Rattle.tl_server.specs.Gaining.{later_all}
+use Rattle.tl_server.specs.Gaining.{later_all, of_session}
 use Rattle.tl_server.specs.declared.outcome.Done.{Done}
 use Rattle.tl_server.specs.Served.{Ways, TextReader, TextReading, NoTexts, ReadBy, Keying, KnowsNoKeys, KeepsNoKeys, KeepsKeys, IsOnceAnswer, IsTextAnswer, IsReplaceAnswer, CallOutcome, SealOutcome, IsSealable, IsBatchAnswer, IsGrowthAnswer, AnswersRequest}
 use Rattle.tl_server.specs.declared.outcome.RequestOutcome.TheVariants.{Registered, RegisteredAll, Replaced, Called, Recalled, KeyRefused, Batched, Grown, Unknown, Sealed}
@@ -30,7 +30,7 @@ use Rattle.tl_server.specs.declared.texts.NamedBounds.{NamedBounds}
 use Rattle.tl_server.specs.declared.texts.TextFault.{TextFault}
 use Rattle.tl_server.specs.declared.texts.ReplaceFault.{ReplaceFault}
 use Rattle.tl_server.proofs.Goings.{may_line}
-use Rattle.tl_server.specs.Outcomes.{BatchOutcome, IsProvided, IsUnknown, IsRegisteredText, IsReplacedBy, IsReplacement, IsCalledOrRecalled, IsKeyRefused, IsCalledOnce, IsGrowth, outcome_text, CameOf, later, later_answer, later_seal, later_did, IsSealableAt, GoesOnFrom}
+use Rattle.tl_server.specs.Outcomes.{BatchOutcome, IsProvided, IsUnknown, IsRegisteredText, IsReplacedBy, IsReplacement, IsCalledOrRecalled, IsKeyRefused, IsCalledOnce, IsGrowth, outcome_text, CameOf, later, later_answer, later_seal, later_did, IsSealableAt, HasKept, GoesOnFrom}
 
 map_both : {A B C : Type 0} (f : B → C) (g : A → B) (xs : List A) → map (λ a. f (g a)) xs ≡ map f (map g xs)
 map_both f g [] = refl
@@ -329,13 +329,13 @@ grows_too seals grows reads keys Closes own o other w = w
 
 -- the same for a relay that uses one of its engines
 pub performed : (grows : Bool) (reads : TextReading) (keys : Keying) (r : LineValue) (old new : ℕ) (o : Option Done) → (HandsOver r → grows ≡ false)
-    → IfSome o (λ d. (own : List Did) × CameOf (record { seals = true; grows = false; reads = reads; keys = keys }) r own d.outcome) → IfSome o (λ d. (old ≤ d.base) × (new ≡ d.base))
+    → IfSome o (λ d. (own : List Did) × CameOf (record { seals = true; grows = false; reads = reads; keys = keys }) r own d.outcome × HasKept own) → IfSome o (λ d. (old ≤ d.base) × (new ≡ d.base))
     → IfSome o (λ d. (own : List Did) × CameOf (record { seals = true; grows = grows; reads = reads; keys = keys }) r own d.outcome × GoesOnFrom old new (map (later_did d.base) own))
 performed grows reads keys r old new None other came later = tt
 performed grows reads keys r old new (Some d) other came later =
-    let (own, done) = came in
+    let (own, done, kept) = came in
     let from = later.0 in
-    (own, grows_too true grows reads keys r own d.outcome other done, (omega (arith, from, later.1), later_all old d.base own from))
+    (own, grows_too true grows reads keys r own d.outcome other done, (omega (arith, from, later.1), later_all old d.base own from, of_session d.base own kept))
 
 -- a request of another kind
 pub no_hand_over : (q : LineRequest) → ((text : String Global) → q ≡ Replace text → ⊥) → ((parents : Vec ℤ Global) → q ≡ Grow parents → ⊥) → HandsOver (line_view q) → ⊥

@@ -1,6 +1,6 @@
 -- The answer to a line.
 use Rattle.std.proofs.Common.{◌≡◌, ◌≢◌, ◌+◌, ◌<◌, ◌⊎◌, ◌++◌, List, ℕ, ℤ, [], refl, sym, ◌∙◌, inl, inr, Bool, true, false}
-use Rattle.std.specs.Prelude.{◌↔◌, Result, Ok, Err, IfOk, IfErr, Vec}
+use Rattle.std.specs.Prelude.{◌↔◌, Result, Ok, Err, IfOk, IfErr, OnErr, Vec}
 use Rattle.std.specs.declared.alloc.Global.{Global}
 use Rattle.tl_procedures.specs.declared.request.Request.{Request}
 use Rattle.tl_table.specs.declared.receipt.Receipt.{Receipt}
@@ -35,11 +35,12 @@ seal_outcome seals (Ok epoch) few h rested = few
 seal_outcome seals (Err e) few h rested = (h, rested)
 
 -- the call that was run since its key was free
-pub granted : (storing : Bool) (claim : Claim) (seals : Bool) (q : List ℕ × List ℤ) (answer : Result Receipt Refusal) → ((claim ≡ NoStore) ↔ (storing ≡ false)) → claim ≡ Granted
-    → IfOk answer (λ r. r.args.items ≡ q.1) → IfErr answer (IsCallRefusal seals) → (own : List Did) × IsCalledOnce (keying storing) seals q own (Called answer)
-granted true claim seals q (Ok r) none is args refused = (call_of q.0 q.1 r, (args, refl))
-granted true claim seals q (Err e) none is args refused = ([], (refl, refused))
-granted false claim seals q answer none is args refused = let both : Granted ≡ NoStore = sym is ∙ none.1 refl in absurd cc
+pub granted : (storing : Bool) (claim : Claim) (seals : Bool) (q : List ℕ × List ℤ) (s t : SessionValue) (answer : Result Receipt Refusal) → ((claim ≡ NoStore) ↔ (storing ≡ false)) → claim ≡ Granted
+    → IfOk answer (λ r. r.args.items ≡ q.1) → IfOk answer (λ r. Gains s t (call_of q.0 q.1 r)) → OnErr answer (Gains s t []) → IfErr answer (IsCallRefusal seals)
+    → (own : List Did) × Gains s t own × IsCalledOnce (keying storing) seals q own (Called answer)
+granted true claim seals q s t (Ok r) none is args kept err refused = (call_of q.0 q.1 r, kept, (args, refl))
+granted true claim seals q s t (Err e) none is args kept err refused = ([], err, (refl, refused))
+granted false claim seals q s t answer none is args kept err refused = let both : Granted ≡ NoStore = sym is ∙ none.1 refl in absurd cc
 
 -- the answer to a request is the answer to a line that contains it
 pub asked_line : (ways : Ways) (may_seal : ℕ → Type 0) (line : List ℕ) (r : LineValue) (gained : List Did) (out : List ℕ) → IsRequest line r → (IsRefused gained out ⊎ AnswersRequest ways may_seal r gained out)

@@ -1,5 +1,5 @@
 -- The result of a request before its answer is written, and the epoch numbers that clients see.
-use Rattle.std.specs.Prelude.{◌≡◌, ◌≢◌, ◌≤◌, ℕ, ◌+◌, ℤ, Bool, true, false, List, All, map, [], ◌++◌, Result, Ok, Err, Vec}
+use Rattle.std.specs.Prelude.{◌≡◌, ◌≢◌, ◌≤◌, ℕ, ◌+◌, ℤ, Bool, true, false, List, All, map, [], ◌∷◌, ◌++◌, Result, Ok, Err, Vec}
 use Rattle.std.specs.declared.alloc.Global.{Global}
 use Rattle.tl_procedures.specs.declared.request.Request.{Request}
 use Rattle.tl_json.specs.Requests.{request_form}
@@ -9,7 +9,8 @@ use Rattle.tl_workers.specs.declared.refusal.Refusal.TheVariants as refusal
 use Rattle.tl_generations.specs.declared.growth.GrowthFault.TheVariants as growth
 use Rattle.tl_workers.specs.declared.session.Did.{Did}
 use Rattle.tl_workers.specs.declared.session.Did.TheVariants.{Asked, Got}
-use Rattle.tl_workers.specs.Kept.{AnswersEach, asked_of, gots_of}
+use Rattle.tl_workers.specs.Kept.{SessionValue, AnswersEach, asked_of, gots_of}
+use Rattle.tl_workers.specs.{WasSession}
 use Rattle.tl_workers.specs.Refusals.{AreCallRefusals}
 use Rattle.tl_server.specs.Requests.{LineValue, Registers, RegistersText, Replaces, Calls, CallsOnce, Batches, Grows, Seals, Closes}
 use Rattle.tl_workers.specs.Refusals.{numbers_of as refusal_numbers_of}
@@ -155,11 +156,29 @@ IsSealableAt base epoch = (own : ℕ) × IsSealable own × (epoch ≡ base + own
 
 -- ---- a visitor of a relay of engines
 
+-- a session of an engine has kept this at the end of its list
+abbrev pub HasKept : List Did → Type 0
+HasKept own = (session : SessionValue) × (before : List Did) × WasSession session × (session.kept ≡ before ++ own)
+
+-- what was gained by a line: what the session of its engine has kept, and how many epochs there were before that engine
+pub record Share : Type 0 where
+  pub base : ℕ
+  pub own : List Did
+
+-- what was gained by several lines
+abbrev pub gained_by : List Share → List Did
+gained_by [] = []
+gained_by (s ∷ shares) = map (later_did s.base) s.own ++ gained_by shares
+
+-- what was gained is, line by line, what a session of the line's engine has kept
+abbrev pub IsOfSessions : List Did → Type 0
+IsOfSessions gained = (shares : List Share) × All (λ s. HasKept s.own) shares × (gained ≡ gained_by shares)
+
 abbrev pub epoch_of : Did → ℕ
 epoch_of (Asked a) = a.epoch
 epoch_of (Got r) = r.epoch
 
 -- The number of epochs before the visitor's engine doesn't decrease, and the calls gained are in no epoch before the old
--- number. Epoch numbers never start again.
+-- number. Epoch numbers never start again. Each call and each receipt is one that a session has kept.
 abbrev pub GoesOnFrom : ℕ → ℕ → List Did → Type 0
-GoesOnFrom old new gained = (old ≤ new) × All (λ d. old ≤ epoch_of d) gained
+GoesOnFrom old new gained = (old ≤ new) × All (λ d. old ≤ epoch_of d) gained × IsOfSessions gained

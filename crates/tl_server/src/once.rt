@@ -2,6 +2,7 @@
 
 ghost use Rattle.std.specs.Prelude.{List, string_bytes};
 ghost use Rattle.tl_workers.specs.declared.session.Did.{Did};
+ghost use Rattle.tl_workers.specs.Kept.{Gains};
 ghost use Rattle.tl_server.specs.Outcomes.{IsCalledOnce};
 ghost use Rattle.tl_server.specs.Served.{keying};
 
@@ -22,7 +23,7 @@ pub(crate) fn call_once<J: Journal>(
     session: &mut Session,
     call: &KeyedCall,
 ) -> RequestOutcome
-    ensures { (own : List Did) × IsCalledOnce (keying (J.is_storing journal.now)) engine.now.seals (string_bytes call.now.request.name, call.now.request.args.items) own result }
+    ensures { (own : List Did) × Gains session.old session.new own × IsCalledOnce (keying (J.is_storing journal.now)) engine.now.seals (string_bytes call.now.request.name, call.now.request.args.items) own result }
 {
     match journal.claim(rt, alloc, engine, session.number(), &call.key) {
         Claim::Granted => {

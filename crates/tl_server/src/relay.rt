@@ -6,7 +6,7 @@ ghost use Rattle.tl_generations.specs.Generations.{LegacyValue, IsReplaced};
 ghost use Rattle.tl_generations.specs.declared.growth.GrowthFault.TheVariants as growth;
 ghost use Rattle.tl_procedures.specs.Names.{Named, AreKnown};
 ghost use Rattle.tl_server.specs.Requests.{line_view};
-ghost use Rattle.tl_server.specs.Outcomes.{IsAsked, CameOf};
+ghost use Rattle.tl_server.specs.Outcomes.{IsAsked, CameOf, HasKept};
 ghost use Rattle.tl_server.specs.Served.{GrowthOutcome, ReplaceOutcome, ReadBy, keying};
 
 use crate::copying::CopyRefusal;
@@ -161,7 +161,7 @@ impl<K: Keeper + Texts, J: Journal> Relay<K, J> {
         request: &LineRequest,
     ) -> Result<Done, Pause>
         requires { IsAsked (line_view request.now) }
-        ensures came { IfOk result (λ d. (own : List Did) × CameOf (record { seals = true; grows = false; reads = ReadBy (record { has = K.has; lacks = K.lacks }); keys = keying (J.is_storing self.now.journal) }) (line_view request.now) own d.outcome) }
+        ensures came { IfOk result (λ d. (own : List Did) × CameOf (record { seals = true; grows = false; reads = ReadBy (record { has = K.has; lacks = K.lacks }); keys = keying (J.is_storing self.now.journal) }) (line_view request.now) own d.outcome × HasKept own) }
         ensures later { IfOk result (λ d. (place.old ≤ d.base) × (place.new ≡ d.base)) }
         ensures same { OnErr result (place.new ≡ place.old) }
     {
@@ -203,7 +203,7 @@ impl<K: Keeper + Texts, J: Journal> Relay<K, J> {
         request: &LineRequest,
     ) -> Option<Done>
         requires { IsAsked (line_view request.now) }
-        ensures came { IfSome result (λ d. (own : List Did) × CameOf (record { seals = true; grows = false; reads = ReadBy (record { has = K.has; lacks = K.lacks }); keys = keying (J.is_storing self.now.journal) }) (line_view request.now) own d.outcome) }
+        ensures came { IfSome result (λ d. (own : List Did) × CameOf (record { seals = true; grows = false; reads = ReadBy (record { has = K.has; lacks = K.lacks }); keys = keying (J.is_storing self.now.journal) }) (line_view request.now) own d.outcome × HasKept own) }
         ensures later { IfSome result (λ d. (place.old ≤ d.base) × (place.new ≡ d.base)) }
         ensures same { result ≡ None → place.new ≡ place.old }
     {

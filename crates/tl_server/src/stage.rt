@@ -3,9 +3,10 @@
 ghost use Rattle.std.specs.Prelude.{◌≡◌, ◌≤◌, ◌<◌, ◌+◌, ◌^◌, List, true, false, None, IfOk, IfSome, OnErr};
 ghost use Rattle.std.proofs.Props.{props};
 ghost use Rattle.tl_workers.specs.declared.session.Did.{Did};
+ghost use Rattle.tl_workers.specs.Kept.{Gains};
 ghost use Rattle.tl_procedures.specs.Names.{Named, AreKnown};
 ghost use Rattle.tl_server.specs.Requests.{line_view};
-ghost use Rattle.tl_server.specs.Outcomes.{IsAsked, CameOf};
+ghost use Rattle.tl_server.specs.Outcomes.{IsAsked, CameOf, HasKept};
 ghost use Rattle.tl_server.specs.Served.{ReadBy, keying};
 
 use crate::journal::Journal;
@@ -69,7 +70,7 @@ fn act_or_read<K: Texts, J: Journal, R: Threads + Wait + Sync>(
     request: &LineRequest,
 ) -> RequestOutcome
     requires { IsAsked (line_view request.now) }
-    ensures { (own : List Did) × CameOf (record { seals = engine.now.seals; grows = false; reads = ReadBy (record { has = K.has; lacks = K.lacks }); keys = keying (J.is_storing journal.now) }) (line_view request.now) own result }
+    ensures { (own : List Did) × Gains session.old session.new own × CameOf (record { seals = engine.now.seals; grows = false; reads = ReadBy (record { has = K.has; lacks = K.lacks }); keys = keying (J.is_storing journal.now) }) (line_view request.now) own result }
 {
     match request {
         LineRequest::RegisterText(text) => {
@@ -78,6 +79,23 @@ fn act_or_read<K: Texts, J: Journal, R: Threads + Wait + Sync>(
         LineRequest::CallOnce(call) => call_once(rt, alloc, engine, journal, session, call),
         request => act(rt, alloc, engine, session, request),
     }
+}
+
+// The same. The session has kept what came of it.
+fn act_kept<K: Texts, J: Journal, R: Threads + Wait + Sync>(
+    rt: &R,
+    alloc: Global,
+    engine: &Engine,
+    journal: &J,
+    session: &mut Session,
+    request: &LineRequest,
+) -> RequestOutcome
+    requires { IsAsked (line_view request.now) }
+    ensures { (own : List Did) × CameOf (record { seals = engine.now.seals; grows = false; reads = ReadBy (record { has = K.has; lacks = K.lacks }); keys = keying (J.is_storing journal.now) }) (line_view request.now) own result × HasKept own }
+{
+    let outcome = act_or_read::<K, J, R>(rt, alloc, engine, journal, session, request);
+    session.lemma_was_session();
+    outcome
 }
 
 /// Why nothing is done yet.
@@ -131,7 +149,7 @@ impl Stage {
         request: &LineRequest,
     ) -> Result<Done, Pause>
         requires { IsAsked (line_view request.now) }
-        ensures came { IfOk result (λ d. (own : List Did) × CameOf (record { seals = true; grows = false; reads = ReadBy (record { has = K.has; lacks = K.lacks }); keys = keying (J.is_storing journal.now) }) (line_view request.now) own d.outcome) }
+        ensures came { IfOk result (λ d. (own : List Did) × CameOf (record { seals = true; grows = false; reads = ReadBy (record { has = K.has; lacks = K.lacks }); keys = keying (J.is_storing journal.now) }) (line_view request.now) own d.outcome × HasKept own) }
         ensures later { IfOk result (λ d. (place.old ≤ d.base) × (place.new ≡ d.base)) }
         ensures same { OnErr result (place.new ≡ place.old) }
     {
@@ -147,7 +165,7 @@ impl Stage {
         }
         let (seat, session) = self.session(rt, alloc, seats, engine, place)?;
         let mut session = session;
-        let outcome = act_or_read::<K, J, R>(rt, alloc, engine, journal, &mut session, request);
+        let outcome = act_kept::<K, J, R>(rt, alloc, engine, journal, &mut session, request);
         seats.lock(rt).put(seat, session);
         *place = Place {
             base: self.base,

@@ -1,9 +1,8 @@
 -- The rows of a core make it again.
-use Rattle.std.proofs.Common.{◌≡◌, ℕ, zero, suc, ◌+◌, ◌/◌, ◌%◌, ◌<◌, ◌≤◌, ◌==◌, ◌||◌, ℤ, true, false, if◌then◌else◌, List, [], ◌∷◌, ◌++◌, length, map, take, drop, reverse, get_or, refl, sym, ap, ap₂, ◌∙◌, subst, arith, None, Some, slice_get}
+use Rattle.std.proofs.Common.{◌≡◌, ℕ, zero, suc, ◌/◌, ◌%◌, ◌<◌, ◌≤◌, ◌==◌, ◌||◌, ℤ, true, false, if◌then◌else◌, List, [], ◌∷◌, ◌++◌, length, map, drop, reverse, get_or, refl, sym, ap, ap₂, ◌∙◌, subst, arith, Some, slice_get}
 use Rattle.std.specs.Prelude.{All}
 use Rattle.std.proofs.lemmas.Bool.{ne_eqb, both_ways}
-use Rattle.std.proofs.Math.Seq.{take-length}
-use Rattle.std.proofs.lemmas.List.{append-nil, append_assoc, map-append, length-map, get_or-map, take_more, reverse-reverse}
+use Rattle.std.proofs.lemmas.List.{append-nil, length-map, get_or-map, reverse-reverse}
 use Rattle.std.proofs.lemmas.Option.{slice_get-get_or}
 use Rattle.tl_tree_locking.specs.declared.action.Action.TheVariants as did
 use Rattle.tl_tree_locking.specs.declared.event.Event.{Event}
@@ -14,7 +13,7 @@ use Rattle.tl_tree_locking.specs.World.{reply_of}
 use Rattle.tl_tree_locking.proofs.Pasts.{All-reverse}
 use Rattle.tl_history.specs.declared.history.TheConstants.{MAX_EVENTS}
 use Rattle.tl_procedures.specs.declared.request.Request.{Request}
-use Rattle.tl_procedures.specs.Names.{Named, no_procedure, number_of, naming_refusal, AreFreeAfter}
+use Rattle.tl_procedures.specs.Names.{Named, no_procedure, number_of}
 use Rattle.tl_core.specs.Cores.{CoreValue, call_of, world_of}
 use Rattle.tl_core.specs.Reached.{IsReached}
 use Rattle.tl_ledger.specs.declared.rows.CallRow.{CallRow}
@@ -134,7 +133,7 @@ other_call : (c d : ℕ) (past : List Event) → is_done d past ≡ false → is
 other_call c d past open' over = ne_eqb d c (λ same. both_ways (is_done c past) (subst (λ z. is_done z past ≡ false) same open') over)
 
 -- once a call is done nothing is added to its part of the history
-done_stays : (c : ℕ) (more past : List Event) → InTurn (more ++ past) → is_done c past ≡ true → (part_of c (more ++ past) ≡ part_of c past) × (is_done c (more ++ past) ≡ true)
+pub done_stays : (c : ℕ) (more past : List Event) → InTurn (more ++ past) → is_done c past ≡ true → (part_of c (more ++ past) ≡ part_of c past) × (is_done c (more ++ past) ≡ true)
 done_stays c [] past in_turn over = (refl, over)
 done_stays c (Admit d ∷ more) past in_turn over = done_stays c more past in_turn.1 over
 done_stays c (Lock x d found ∷ more) past in_turn over =

@@ -5,4 +5,4 @@ mod StoredLemmas
 mod ReplyLemmas
 mod ClosingLemmas
 mod ProcedureLemmas
-mod AgainLemmas
+pub mod AgainLemmas

@@ -7,6 +7,7 @@ use Rattle.tl_core.specs.Cores.{CoreValue, call_of, world_of}
 use Rattle.tl_core.specs.Entries.{procedure_at}
 use Rattle.tl_json.specs.Procedures.{AreAccepted}
 use Rattle.tl_ledger.specs.Contents.{Contents}
+use Rattle.tl_recover.specs.Later.{Later}
 use Rattle.tl_ledger.specs.declared.rows.CallRow.{CallRow}
 use Rattle.tl_ledger.specs.declared.rows.ReplyRow.{ReplyRow}
 use Rattle.tl_store.specs.declared.stored.Stored.{Stored}
@@ -74,6 +75,12 @@ pub record AreOfCore (s : Stored) (v : CoreValue) : Type 0 where
 -- the rows that a store with these contents has after its last seal are those of this core
 abbrev pub IsStoreOf : Contents → CoreValue → Type 0
 IsStoreOf c v = (rows : Stored) → AreStored c rows → AreOfCore rows v
+
+-- the core w is v at a later time, with the same procedures, when all its calls are done
+pub record IsMadeAgain (v w : CoreValue) : Type 0 where
+  pub later : Later v w
+  pub procedures : w.procedures ≡ v.procedures
+  pub at_rest : AllDone w.past
 
 -- the core is rebuilt from the rows that a store with these contents has after its last seal
 pub record IsRecovered (c : Contents) (v : CoreValue) : Type 0 where

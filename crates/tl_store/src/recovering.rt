@@ -10,7 +10,7 @@ ghost use Rattle.sqlite_trees.specs.View.{IsClean};
 ghost use Rattle.tl_ledger.specs.Contents.{Contents, Holds, AreTables};
 ghost use Rattle.tl_store.specs.declared.fault.StoreFault.TheVariants.{Memory};
 ghost use Rattle.tl_store.specs.Faults.{IsOutOfMemory, IsReadFault};
-ghost use Rattle.tl_store.specs.Recovered.{IsOpened, IsReplyOf, IsRebuilt, IsRecovered, AreOfCore, IsStoreOf};
+ghost use Rattle.tl_store.specs.Recovered.{IsOpened, IsReplyOf, IsRebuilt, IsRecovered, IsMadeAgain, AreOfCore, IsStoreOf};
 
 use crate::calls::requests_of;
 use crate::fault::StoreFault;
@@ -67,6 +67,7 @@ fn drive(
     ensures replies { OnOk result (All (IsReplyOf core.new.seen (pos stored.now.marks.seals)) stored.now.replies.items) }
     ensures again { (v : CoreValue) → AreTurnsTo v core.old.seen requests.now turns.now → All (IsReplyOf v (pos stored.now.marks.seals)) stored.now.replies.items
         → IfErr result IsOutOfMemory }
+    ensures same { (v : CoreValue) → AreTurnsTo v core.old.seen requests.now turns.now → OnOk result (IsMadeAgain v core.new.seen) }
 {
     redrive(alloc, core, requests, turns)?;
     finish(core);
@@ -79,10 +80,11 @@ fn drive(
 /// Makes the core again that the rows are of, and lets its calls end. Its calls are those that are stored, in the order of their turns; each stored
 /// reply is that of its call. 1003 and the table if a row has another form; 1004 or 1005 and the turn, or the core's refusal of a call, if the calls
 /// can't take the stored turns; 1006 and the call if a stored reply isn't that of the call; 1090 if memory is refused. If the rows are those of a core,
-/// only memory can be refused.
+/// only memory can be refused, and the core is that one, at the end of its calls.
 pub fn rebuild(alloc: Global, stored: &Stored) -> Result<Recovered, StoreFault>
     ensures rebuilt { IfOk result (λ r. IsRebuilt stored.now r.core.seen) }
     ensures again { (v : CoreValue) → IsReached v → AreOfCore stored.now v → IfErr result IsOutOfMemory }
+    ensures same { (v : CoreValue) → IsReached v → AreOfCore stored.now v → IfOk result (λ r. IsMadeAgain v r.core.seen) }
 {
     let requests = requests_of(alloc, stored.marks.seals, stored.calls.as_slice())?;
     let turns = turns_of(alloc, stored.marks.seals, stored.turns.as_slice())?;
@@ -104,12 +106,14 @@ pub fn rebuild(alloc: Global, stored: &Stored) -> Result<Recovered, StoreFault>
 }
 
 /// Makes the core again that a store holds behind its last seal, and lets its calls end. Faults as of `read_stored` and `rebuild`. If the rows there are
-/// those of a core, only the disk can fail, memory be refused, or a row have another form.
+/// those of a core, only the disk can fail, memory be refused, or a row have another form, and the core is that one, at the end of its calls.
 pub fn recover<S: Store>(alloc: Global, store: &mut S) -> Result<Recovered, StoreFault>
     requires { IsClean (S.Store.view store.old) → AreTables (S.Store.view store.old) }
     ensures recovered { IfOk result (λ r. IsClean (S.Store.view store.new) → (c : Contents) → Holds (S.Store.view store.old).trees c → IsRecovered c r.core.seen) }
     ensures again { IfErr result (λ e. IsClean (S.Store.view store.new) → (c : Contents) (v : CoreValue) → Holds (S.Store.view store.old).trees c → IsReached v → IsStoreOf c v
         → IsReadFault e ⊎ IsOutOfMemory e) }
+    ensures same { IfOk result (λ r. IsClean (S.Store.view store.new) → (c : Contents) (v : CoreValue) → Holds (S.Store.view store.old).trees c → IsReached v → IsStoreOf c v
+        → IsMadeAgain v r.core.seen) }
 {
     let stored = read_stored(alloc, store)?;
     rebuild(alloc, &stored)

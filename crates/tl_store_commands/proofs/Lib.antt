@@ -1,1 +1,4 @@
 pub mod RememberingLemmas
+mod ReopeningLemmas
+mod EmptyLemmas
+mod BeginningLemmas

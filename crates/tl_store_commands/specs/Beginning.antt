@@ -2,17 +2,19 @@
 use Rattle.std.specs.Prelude.{◌≡◌, ◌⊎◌, pos, [], All, map}
 use Rattle.sqlite_trees.specs.Tree.{Trees}
 use Rattle.tl_tree.specs.Trees.{TreeValue}
-use Rattle.tl_core.specs.Cores.{CoreValue, CoreState, opened_after}
+use Rattle.tl_core.specs.Cores.{CoreValue, CoreState, opened, opened_after}
+use Rattle.tl_history.specs.declared.history.TheConstants.{MAX_EVENTS}
 use Rattle.tl_ledger.specs.declared.committing.Marks.{Marks}
 use Rattle.tl_ledger.specs.declared.founding.Founding.{Founding}
 use Rattle.tl_ledger.specs.declared.news.News.{News}
-use Rattle.tl_ledger.specs.Contents.{Contents, Holds}
-use Rattle.tl_ledger.specs.News.{IsMarked, after_news}
+use Rattle.tl_ledger.specs.Contents.{Contents, Holds, no_contents}
+use Rattle.tl_ledger.specs.News.{IsMarked, after_news, after_founding}
 use Rattle.tl_store.specs.declared.stored.Stored.{Stored}
 use Rattle.tl_rows.specs.Rows.{parent_in, fields_in}
 use Rattle.tl_store.specs.Stored.{AreStored}
-use Rattle.tl_store.specs.Recovered.{IsRebuilt}
+use Rattle.tl_store.specs.Recovered.{IsRebuilt, IsMadeAgain}
 use Rattle.tl_store.specs.Closing.{IsClosing}
+use Rattle.tl_store_laws.specs.Growing.{IsLedgerOf}
 
 -- the first contents have the tree, whose nodes exist from epoch 0 on, and no procedures
 pub record IsFirst (t : TreeValue) (first : Founding) : Type 0 where
@@ -20,6 +22,14 @@ pub record IsFirst (t : TreeValue) (first : Founding) : Type 0 where
   pub epoch : All (λ r. r.epoch ≡ pos 0) first.nodes.items
   pub records : map fields_in first.records.items ≡ t.records
   pub procedures : first.procedures.items ≡ []
+
+-- The core is that of the tree, without procedures and calls, and the store has its rows.
+pub record BeginsWith (t : TreeValue) (core : CoreState) (committed : Trees) : Type 0 where
+  pub core_is : core ≡ opened t [] MAX_EVENTS
+  pub first : Founding
+  pub is_first : IsFirst t first
+  pub holds : Holds committed (after_founding no_contents first)
+  pub rows : IsLedgerOf (after_founding no_contents first) core.seen
 
 -- the contents after the rows that close the epoch of replayed calls; unchanged if no calls were stored
 abbrev pub IsClosed : Stored → CoreValue → Contents → Contents → Type 0
@@ -38,3 +48,13 @@ pub record TakesUp (before : Contents) (core : CoreState) (committed : Trees) (m
   pub closed : IsClosed rows last before now
   pub holds : Holds committed now
   pub marked : IsMarked now marks
+
+-- The core takes over from the core v at the end of its calls, and the store has the rows of the core that takes over.
+pub record Resumes (v : CoreValue) (core : CoreState) (committed : Trees) (marks : Marks) : Type 0 where
+  pub last : CoreValue
+  pub made : IsMadeAgain v last
+  pub next : core ≡ opened_after last
+  pub now : Contents
+  pub holds : Holds committed now
+  pub marked : IsMarked now marks
+  pub rows : IsLedgerOf now core.seen

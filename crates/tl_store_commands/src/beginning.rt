@@ -7,7 +7,7 @@ ghost use Rattle.tl_history.specs.declared.history.TheConstants.{MAX_EVENTS};
 ghost use Rattle.tl_ledger.specs.Contents.{no_contents, Holds, IsAtRest};
 ghost use Rattle.tl_ledger.specs.News.{after_founding, IsMarked};
 ghost use Rattle.tl_ledger.specs.declared.founding.Founding.{Founding};
-ghost use Rattle.tl_store_commands.specs.Beginning.{IsFirst};
+ghost use Rattle.tl_store_commands.specs.Beginning.{IsFirst, BeginsWith};
 
 use sqlite_trees::store::Store;
 use sqlite_value::row::Row;
@@ -69,6 +69,7 @@ pub fn make_store<S: Store + Drop>(
     ensures core { IfOk result (λ b. b.core ≡ opened tree [] MAX_EVENTS) }
     ensures stored { IfOk result (λ b. (first : Founding) × IsFirst tree first × IsMarked (after_founding no_contents first) b.ledger.marks
         × (IsClean (S.Store.view b.ledger.store) → Holds (S.Store.view b.ledger.store).committed (after_founding no_contents first))) }
+    ensures begins { IfOk result (λ b. IsClean (S.Store.view b.ledger.store) → BeginsWith tree b.core (S.Store.view b.ledger.store).committed) }
 {
     let first = contents_of(alloc, &tree)?;
     let ledger = founded(alloc, store, &first)?;

@@ -2,11 +2,13 @@
 #![tactic(auto)]
 
 mod beginning;
+mod emptiness;
 mod ending;
 mod remembering;
 mod reopening;
 
 pub use beginning::{Beginning, make_store};
+pub use emptiness::has_no_rows;
 pub use ending::end_store;
 pub use remembering::remember_keys;
 pub use reopening::{Retaken, reopen_store};

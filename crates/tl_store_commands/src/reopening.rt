@@ -2,10 +2,13 @@
 
 ghost use Rattle.std.specs.Prelude.{◌≡◌, ◌≤◌, false, IfOk};
 ghost use Rattle.sqlite_trees.specs.View.{IsClean, doubt};
+ghost use Rattle.tl_core.specs.Cores.{CoreValue};
+ghost use Rattle.tl_core.specs.Reached.{IsReached};
 ghost use Rattle.tl_ledger.specs.Contents.{Contents, Holds, IsAtRest};
 ghost use Rattle.tl_ledger.specs.News.{IsMarked};
 ghost use Rattle.tl_store.specs.Recovered.{IsRebuilt};
-ghost use Rattle.tl_store_commands.specs.Beginning.{IsClosed, TakesUp};
+ghost use Rattle.tl_store_laws.specs.Growing.{IsLedgerOf};
+ghost use Rattle.tl_store_commands.specs.Beginning.{IsClosed, Resumes, TakesUp};
 
 use crate::beginning::Beginning;
 use sqlite_trees::store::Store;
@@ -57,18 +60,23 @@ fn count_retaken(stored: &Stored) -> Retaken {
 }
 
 /// Takes up what a store holds: the calls behind its last seal are taken again and end, and what that adds is stored, with the seal of
-/// their epoch. The core is the one that takes over from theirs. Faults as of `read_stored` and `rebuild`; 1011 to 1013 if the disk fails.
+/// their epoch. The core is the one that takes over from theirs. If the rows were those of a core, that one is taken up, and the store has the rows of the
+/// core that takes over, so the next start takes it up in turn. Faults as of `read_stored` and `rebuild`; 1011 to 1013 if the disk fails.
 pub fn reopen_store<S: Store + Drop>(
     alloc: Global,
     store: S,
 ) -> Result<(Beginning<S>, Retaken), StoreFault>
     requires { IsClean (S.Store.view store) → IsAtRest (S.Store.view store) }
-    ensures { IfOk result (λ r. IsClean (S.Store.view r.0.ledger.store) → (c : Contents) → Holds (S.Store.view store).committed c
+    ensures taken_up { IfOk result (λ r. IsClean (S.Store.view r.0.ledger.store) → (c : Contents) → Holds (S.Store.view store).committed c
         → TakesUp c r.0.core (S.Store.view r.0.ledger.store).committed r.0.ledger.marks) }
+    ensures resumes { IfOk result (λ r. IsClean (S.Store.view r.0.ledger.store) → (c : Contents) (v : CoreValue) → Holds (S.Store.view store).committed c → IsReached v → IsLedgerOf c v
+        → Resumes v r.0.core (S.Store.view r.0.ledger.store).committed r.0.ledger.marks) }
 {
     let mut store = store;
     let stored = read_stored(alloc, &mut store)?;
     let core = rebuild(alloc, &stored)?.core;
+    // The store has the rows of a core that was reached, as each is.
+    core.lemma_is_reached();
     let Ok(next) = core.successor(alloc) else {
         return Err(StoreFault::Memory);
     };

@@ -3,11 +3,22 @@ use Rattle.std.specs.Prelude.{ℕ, List, [], ◌∷◌}
 use Rattle.sqlite_trees.specs.declared.error.StoreError.{StoreError}
 use Rattle.sqlite_trees.specs.declared.error.StoreError.TheVariants as name
 use Rattle.tl_store_file.specs.declared.fault.FileFault.{FileFault}
+use Rattle.tl_store_file.specs.declared.fault.Hindrance.{Hindrance}
+use Rattle.tl_store_file.specs.declared.fault.Hindrance.TheVariants.{Permission, NoFolder, NotRegular, Journal, NoLocks, Other}
 use Rattle.tl_store_file.specs.declared.fault.FileFault.TheVariants.{Unopened, Busy, NotStore, DiskFailed, DiskFull, Damaged, Memory}
+
+-- the number of what keeps a file from being opened
+abbrev pub hindrance_number : Hindrance → ℕ
+hindrance_number Permission = 1
+hindrance_number NoFolder = 2
+hindrance_number NotRegular = 3
+hindrance_number Journal = 4
+hindrance_number NoLocks = 5
+hindrance_number Other = 6
 
 -- the fault's number, followed by its operand
 abbrev pub numbers_of : FileFault → List ℕ
-numbers_of Unopened = 1001 ∷ []
+numbers_of (Unopened hindrance) = 1001 ∷ hindrance_number hindrance ∷ []
 numbers_of Busy = 1002 ∷ []
 numbers_of NotStore = 1003 ∷ 9 ∷ []
 numbers_of DiskFailed = 1011 ∷ []

@@ -6,5 +6,5 @@
 mod fault;
 mod opening;
 
-pub use fault::FileFault;
+pub use fault::{FileFault, Hindrance};
 pub use opening::{Blank, Found, Rested, find, open};

@@ -1,13 +1,13 @@
 // A store's file, opened or made.
 
-ghost use Rattle.std.specs.Prelude.{◌≡◌, ◌<◌, [], ℕ, IsTrue, IfOk};
+ghost use Rattle.std.specs.Prelude.{◌≡◌, ◌<◌, [], ℕ, IsTrue, IfOk, OnOk};
 ghost use Rattle.sqlite_store.specs.FileStore.{view};
 ghost use Rattle.sqlite_store.specs.Unopened.{AreUsable, wanted_by};
 ghost use Rattle.sqlite_trees.specs.View.{IsClean};
 ghost use Rattle.tl_ledger.specs.Contents.{IsAtRest, Holds};
 ghost use Rattle.tl_store_file.specs.Listed.{ListsTables};
 
-use crate::fault::FileFault;
+use crate::fault::{FileFault, Hindrance};
 use sqlite_disk::{Disk, Files, Tally, Unknown};
 use sqlite_pager::{Options, Pager};
 use sqlite_pool::probe_blank;
@@ -16,10 +16,19 @@ use sqlite_store::{FileStore, OpenError, Unopened, name_fault};
 use sqlite_wal::PageSize;
 use std::alloc::Global;
 use std::hash::{BuildHasher, RandomState};
+use std::io::{self, ErrorKind};
 use tl_ledger::tables;
 
 /// How many bytes a page has.
 const PAGE: usize = 4096;
+
+/// What the system says where a file system has no locks: ENOLCK and EOPNOTSUPP.
+const NO_LOCKS: i32 = 37;
+
+const NOT_SUPPORTED: i32 = 95;
+
+/// What the system says where a disk fails: EIO.
+const IO_FAILED: i32 = 5;
 
 /// A file and its log that hold no database.
 #[derive(Drop)]
@@ -39,7 +48,7 @@ pub struct Rested<D: Disk> {
 /// What files hold.
 #[derive(Drop)]
 pub enum Found<D: Disk> {
-    /// No database: one can be made.
+    /// No database, or one without tables: one can be made.
     Blank(Blank<D>),
     /// A store.
     Store(Rested<D>),
@@ -78,6 +87,25 @@ fn fault_of(error: OpenError, before: Tally, now: Tally) -> FileFault {
     }
 }
 
+// Whether the files hold no database, or one without tables: its first page was made, and then a crash came, or the disk was full.
+fn has_no_tables<D: Disk>(
+    unopened: &mut Unopened<D>,
+    is_blank: bool,
+    before: Tally,
+) -> Result<bool, FileFault>
+    requires { AreUsable unopened.old }
+    ensures usable { OnOk result (AreUsable unopened.new) }
+    ensures schema { wanted_by unopened.new ≡ wanted_by unopened.old }
+{
+    if is_blank {
+        return Ok(true);
+    }
+    match unopened.read_catalog() {
+        Ok(rows) => Ok(rows.is_empty()),
+        Err(error) => Err(fault_of(error, before, unopened.tally())),
+    }
+}
+
 impl<D: Disk + Drop> Blank<D> {
     /// Makes a store without rows. A crash leaves no database, one that can be made in its place, or that store.
     pub fn make(self) -> Result<Rested<D>, FileFault>
@@ -110,13 +138,35 @@ pub fn find<D: Disk + Drop>(
         Err(sqlite_wal::Error::OutOfMemory) => return Err(FileFault::Memory),
         Err(_) => return Err(FileFault::of_disk(name_fault(before, files.tally()))),
     };
-    let unopened = unopened(alloc, files, seed)?;
-    if is_blank {
+    let mut unopened = unopened(alloc, files, seed)?;
+    if has_no_tables(&mut unopened, is_blank, before)? {
         return Ok(Found::Blank(Blank { unopened }));
     }
     match unopened.open() {
         Ok(store) => Ok(Found::Store(Rested { store })),
         Err((error, unopened)) => Err(fault_of(error, before, unopened.tally())),
+    }
+}
+
+// What keeps a file from being opened, by what the system says. What is no regular file with one name has no number of the system, and is `Unsupported`.
+fn hindrance_of(error: &io::Error) -> Hindrance {
+    if matches!(error.raw_os_error(), Some(NO_LOCKS | NOT_SUPPORTED)) {
+        return Hindrance::NoLocks;
+    }
+    match error.kind() {
+        ErrorKind::PermissionDenied => Hindrance::Permission,
+        ErrorKind::NotFound => Hindrance::NoFolder,
+        ErrorKind::Unsupported | ErrorKind::IsADirectory => Hindrance::NotRegular,
+        _ => Hindrance::Other,
+    }
+}
+
+// Why a file isn't opened, by what the system says: its disk, or something that keeps it from being opened.
+fn refusal_of(error: &io::Error) -> FileFault {
+    match (error.kind(), error.raw_os_error()) {
+        (ErrorKind::StorageFull, _) => FileFault::DiskFull,
+        (_, Some(IO_FAILED)) => FileFault::DiskFailed,
+        _ => FileFault::Unopened(hindrance_of(error)),
     }
 }
 
@@ -130,6 +180,7 @@ pub fn open(rt: &HostRuntime, path: &str) -> Result<Found<File>, FileFault> {
         Ok(files) => find(rt.alloc(), files, state.hash_one(&0u8)),
         Err(sqlite_std_file::OpenError::OutOfMemory) => Err(FileFault::Memory),
         Err(sqlite_std_file::OpenError::Busy) => Err(FileFault::Busy),
-        Err(_) => Err(FileFault::Unopened),
+        Err(sqlite_std_file::OpenError::HotJournal) => Err(FileFault::Unopened(Hindrance::Journal)),
+        Err(sqlite_std_file::OpenError::Io(error)) => Err(refusal_of(&error)),
     }
 }

@@ -11,7 +11,7 @@ use Rattle.tl_ledger.specs.News.{IsMarked, new_columns}
 use Rattle.std.specs.Prelude.{◌<◌, ◌++◌}
 use Rattle.tl_store.specs.declared.stored.Sealed.{Sealed}
 use Rattle.tl_store.specs.Stored.{IsLastSeal}
-use Rattle.tl_store_laws.specs.Batches.{Batch, joined, after_batch}
+use Rattle.tl_rows.specs.Batches.{Batch, joined, after_batch}
 use Rattle.tl_store_laws.specs.Growing.{AreRowsOf, AreBehindCounts, IsLedgerOf}
 use Rattle.tl_store_laws.proofs.Joined.{same_nodes, same_records, same_procedures, same_calls, same_turns, same_replies, same_seals}
 

@@ -13,8 +13,8 @@ use Rattle.tl_rows.specs.Rows.{procedure_form}
 use Rattle.tl_store.specs.declared.stored.Stored.{Stored}
 use Rattle.tl_store.specs.Stored.{AreStored}
 use Rattle.tl_store.specs.Closing.{IsClosing}
-use Rattle.tl_store_laws.specs.Later.{Later}
-use Rattle.tl_store_laws.specs.Batches.{batch_of}
+use Rattle.tl_recover.specs.Later.{Later}
+use Rattle.tl_rows.specs.Batches.{batch_of}
 use Rattle.tl_store_laws.specs.Growing.{IsLedgerOf, IsSealOf, IsLastNewsOf}
 use Rattle.tl_store_laws.proofs.Seal.{ledger_seals}
 

@@ -18,7 +18,7 @@ use Rattle.tl_core.specs.declared.followed.TurnOutcome.TheVariants as outcome
 use Rattle.tl_machine.specs.Turns.{SegmentValue, TurnValue, LentValue}
 use Rattle.tl_core.specs.Followed.{Goes, Proceeds, HasGone, IsLedTo, Submits}
 use Rattle.tl_core.specs.declared.fault.CoreFault.{CoreFault}
-use Rattle.tl_store_laws.specs.Later.{Ask, ask_of, Later}
+use Rattle.tl_recover.specs.Later.{Ask, ask_of, Later}
 
 pub later_same : (v : CoreValue) → Later v v
 later_same v = record {

@@ -23,8 +23,8 @@ use Rattle.tl_rows.specs.Rows.{procedure_form, named_form, AreNumbered, turn_byt
 use Rattle.tl_store.specs.declared.stored.Sealed.{Sealed}
 use Rattle.tl_store.specs.Stored.{IsLastSeal}
 use Rattle.tl_store.specs.Recovered.{IsCallOf, IsReplyOf}
-use Rattle.tl_store_laws.specs.Later.{Later}
-use Rattle.tl_store_laws.specs.Batches.{Batch, after_batch}
+use Rattle.tl_recover.specs.Later.{Later}
+use Rattle.tl_rows.specs.Batches.{Batch, after_batch}
 use Rattle.tl_store_laws.specs.Growing.{RowsValue, AreRowsOf, IsRowOf, IsNewsOf, added, AreBehindCounts, AreRowsIn, IsLedgerOf}
 use Rattle.tl_store_laws.proofs.Put.{latest_joined, may_joined, latest_free, may_free, free_behind}
 use Rattle.tl_store_laws.proofs.Stay.{calls_longer, call_stays, reply_stays}

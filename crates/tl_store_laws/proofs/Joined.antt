@@ -8,7 +8,7 @@ use Rattle.tl_ledger.specs.declared.rows.ChangedRecord.{ChangedRecord}
 use Rattle.tl_ledger.specs.declared.schema.TheConstants.{NODE, RECORD, PROCEDURE, CALL, TURN, REPLY, SEAL}
 use Rattle.tl_ledger.specs.Contents.{Contents}
 use Rattle.tl_ledger.specs.News.{node_columns, new_columns, record_columns, procedure_columns, call_columns, turn_columns, reply_columns, seal_columns, with_changes}
-use Rattle.tl_store_laws.specs.Batches.{Batch, joined, after_batch}
+use Rattle.tl_rows.specs.Batches.{Batch, joined, after_batch}
 
 behind : {A B : Type 0} (f : A → B) (c : List B) (xs ys : List A) → c ++ map f (xs ++ ys) ≡ (c ++ map f xs) ++ map f ys
 behind f c xs ys = ap (λ l. c ++ l) (map-append f xs ys) ∙ sym (append_assoc c (map f xs) (map f ys))

@@ -12,3 +12,4 @@ pub mod Joined
 pub mod Again
 pub mod Closed
 pub mod Founded
+pub mod Idle

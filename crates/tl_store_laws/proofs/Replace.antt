@@ -15,7 +15,7 @@ use Rattle.tl_ledger.specs.Contents.{Contents}
 use Rattle.tl_ledger.specs.News.{procedure_columns, seal_columns}
 use Rattle.tl_rows.specs.Rows.{procedure_form, named_form, IsTurnRow}
 use Rattle.tl_store.specs.Recovered.{IsReplyOf}
-use Rattle.tl_store_laws.specs.Batches.{Batch, after_batch}
+use Rattle.tl_rows.specs.Batches.{Batch, after_batch}
 use Rattle.tl_store_laws.specs.Growing.{RowsValue, AreRowsOf, AreRowsIn, IsLedgerOf, IsReplacingNewsOf, added}
 use Rattle.tl_store_laws.proofs.Put.{may_joined}
 use Rattle.tl_store_laws.proofs.Replaced.{latest_replaced, known_named, put_known}

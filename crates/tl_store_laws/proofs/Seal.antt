@@ -22,8 +22,8 @@ use Rattle.tl_ledger.specs.News.{node_columns, new_columns, record_columns, fiel
 use Rattle.tl_rows.specs.Rows.{fields_in, procedure_form, named_form}
 use Rattle.tl_store.specs.declared.stored.Sealed.{Sealed}
 use Rattle.tl_store.specs.Stored.{IsLastSeal, counts}
-use Rattle.tl_store_laws.specs.Later.{Later}
-use Rattle.tl_store_laws.specs.Batches.{Batch, after_batch}
+use Rattle.tl_recover.specs.Later.{Later}
+use Rattle.tl_rows.specs.Batches.{Batch, after_batch}
 use Rattle.tl_store_laws.specs.Growing.{RowsValue, AreRowsOf, AreBehindCounts, AreRowsIn, IsLedgerOf, IsSealOf, IsLastNewsOf}
 use Rattle.tl_store_laws.proofs.Put.{latest_joined, may_joined, latest_free, may_free, free_behind}
 use Rattle.tl_store_laws.proofs.Leading.{changes_lead}

@@ -19,7 +19,8 @@ use Rattle.tl_core.specs.Reached.{IsReached}
 use Rattle.tl_ledger.specs.declared.rows.CallRow.{CallRow}
 use Rattle.tl_ledger.specs.declared.rows.ReplyRow.{ReplyRow}
 use Rattle.tl_store.specs.Recovered.{IsCallOf, IsReplyOf}
-use Rattle.tl_store_laws.specs.Later.{Ask, ask_of, Later}
+use Rattle.tl_recover.specs.Later.{Ask, ask_of, Later}
+use Rattle.tl_store.proofs.AgainLemmas.{done_stays}
 use Rattle.tl_store_laws.proofs.Put.{position_stays}
 
 -- there are as many calls, or more
@@ -61,26 +62,6 @@ call_stays v w c row l known is =
     }
 
 -- ---- replies
-
-other_call : (c d : ℕ) (past : List Event) → is_done d past ≡ false → is_done c past ≡ true → (d == c) ≡ false
-other_call c d past open' over = ne_eqb d c (λ same. both_ways (is_done c past) (subst (λ z. is_done z past ≡ false) same open') over)
-
--- once a call is done nothing is added to its part of the history
-done_stays : (c : ℕ) (more past : List Event) → InTurn (more ++ past) → is_done c past ≡ true → (part_of c (more ++ past) ≡ part_of c past) × (is_done c (more ++ past) ≡ true)
-done_stays c [] past in_turn over = (refl, over)
-done_stays c (Admit d ∷ more) past in_turn over = done_stays c more past in_turn.1 over
-done_stays c (Lock x d found ∷ more) past in_turn over =
-    let rest = done_stays c more past in_turn.1 over in
-    let other = other_call c d (more ++ past) in_turn.0.1 rest.1 in
-    (ap (λ b. if b then did.Lock x found ∷ part_of c (more ++ past) else part_of c (more ++ past)) other ∙ rest.0, rest.1)
-done_stays c (Free x d left ∷ more) past in_turn over =
-    let rest = done_stays c more past in_turn.1 over in
-    let other = other_call c d (more ++ past) in_turn.0.1 rest.1 in
-    (ap (λ b. if b then did.Free x left ∷ part_of c (more ++ past) else part_of c (more ++ past)) other ∙ rest.0, rest.1)
-done_stays c (Done d ∷ more) past in_turn over =
-    let rest = done_stays c more past in_turn.1 over in
-    let other = other_call c d (more ++ past) in_turn.0.1 rest.1 in
-    (ap (λ b. if b then did.End ∷ part_of c (more ++ past) else part_of c (more ++ past)) other ∙ rest.0, ap (λ b. b || is_done c (more ++ past)) other ∙ rest.1)
 
 -- a call that is done stays done, with its reply
 pub reply_kept : (v w : CoreValue) (c : ℕ) → Later v w → IsReached w → c < length v.calls → is_done c v.past ≡ true → (is_done c w.past ≡ true) × (reply_of (world_of w) c ≡ reply_of (world_of v) c)

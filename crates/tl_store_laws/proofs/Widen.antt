@@ -16,7 +16,7 @@ use Rattle.tl_rows.specs.Rows.{parent_in, fields_in}
 use Rattle.tl_store.specs.declared.stored.Sealed.{Sealed}
 use Rattle.tl_store.specs.Stored.{IsLastSeal}
 use Rattle.tl_store.specs.Recovered.{IsCallOf, IsReplyOf}
-use Rattle.tl_store_laws.specs.Batches.{Batch, after_batch}
+use Rattle.tl_rows.specs.Batches.{Batch, after_batch}
 use Rattle.tl_store_laws.specs.Growing.{RowsValue, AreRowsOf, AreBehindCounts, AreRowsIn, IsLedgerOf, IsWideningNewsOf, widened}
 
 abbrev zero_row : NodeRow → RecordRow

@@ -21,7 +21,7 @@ use Rattle.tl_store.specs.declared.stored.Stored.{Stored}
 use Rattle.tl_store.specs.Stored.{IsLastSeal}
 use Rattle.tl_store.specs.Recovered.{IsCallOf, IsReplyOf}
 use Rattle.tl_rows.specs.Changes.{Leads}
-use Rattle.tl_store_laws.specs.Batches.{Batch}
+use Rattle.tl_rows.specs.Batches.{Batch}
 
 -- the nodes, records and procedures, and the calls, turns and replies behind the last seal
 pub record RowsValue : Type 0 where

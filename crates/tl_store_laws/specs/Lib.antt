@@ -1,3 +1,1 @@
-pub mod Batches
-pub mod Later
 pub mod Growing

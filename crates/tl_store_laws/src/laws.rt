@@ -5,12 +5,12 @@ ghost use Rattle.tl_core.specs.Reached.{IsReached};
 ghost use Rattle.tl_ledger.specs.declared.news.News.{News as Came};
 ghost use Rattle.tl_ledger.specs.Contents.{Contents, no_contents};
 ghost use Rattle.tl_ledger.specs.News.{after_news, after_founding};
-ghost use Rattle.tl_store.specs.Recovered.{IsStoreOf};
+ghost use Rattle.tl_store.specs.Recovered.{IsStoreOf, IsMadeAgain};
 ghost use Rattle.tl_store.specs.declared.stored.Stored.{Stored as Rows};
 ghost use Rattle.tl_store.specs.Stored.{AreStored};
 ghost use Rattle.tl_store.specs.Closing.{IsClosing};
-ghost use Rattle.tl_store_laws.specs.Batches.{Batch, batch_of, joined, after_batch};
-ghost use Rattle.tl_store_laws.specs.Later.{Later};
+ghost use Rattle.tl_rows.specs.Batches.{Batch, batch_of, joined, after_batch};
+ghost use Rattle.tl_recover.specs.Later.{Later};
 ghost use Rattle.tl_store_laws.specs.Growing.{IsNewsOf, IsLastNewsOf, IsReplacingNewsOf, IsWideningNewsOf, widened, IsLedgerOf};
 ghost use Rattle.std.specs.Prelude.{◌≡◌, ◌<◌, ◌++◌, ℕ, ℤ, pos, List, [], All, length, map};
 ghost use Rattle.tl_tree.specs.Records.{Records};
@@ -93,6 +93,11 @@ pub fn rows_are_joined()
 pub fn rows_are_closed()
     ensures { (c : Contents) (rows : Rows) (v w : CoreValue) (news : Came) → IsLedgerOf c v → Later v w → w.procedures ≡ v.procedures → IsReached w → AreStored c rows → IsClosing rows w news
         → IsLedgerOf (after_news c news) (opened_after w).seen }
+{}
+
+/// Where a core without calls was made again, the store has the rows of the core that takes over.
+pub fn rows_are_kept()
+    ensures { (c : Contents) (v w : CoreValue) → IsLedgerOf c v → IsMadeAgain v w → IsReached v → IsReached w → w.calls ≡ [] → IsLedgerOf c (opened_after w).seen }
 {}
 
 /// The first contents of a store are the rows of a core of that tree, without procedures and calls.

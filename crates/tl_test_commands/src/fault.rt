@@ -13,7 +13,7 @@ use tl_verify::VerifyFault;
 use tl_workers::Refusal;
 
 /// Each fault, and its numbers, exit status and text.
-const FAULTS: [(CliFault, &str); 35] = [
+const FAULTS: [(CliFault, &str); 36] = [
     (CliFault::Unreadable, "[31] 3: a file can't be read"),
     (CliFault::Unwritable, "[32] 3: a file can't be written"),
     (CliFault::NoPort, "[33] 3: a port can't be opened"),
@@ -31,6 +31,10 @@ const FAULTS: [(CliFault, &str); 35] = [
     (
         CliFault::NotClosed,
         "[831] 1: the calls are not those that were asked for",
+    ),
+    (
+        CliFault::Replaced,
+        "[720] 1: a procedure has another code than in the file before",
     ),
     (
         CliFault::Engine(Refusal::Memory),

@@ -96,3 +96,23 @@ fn an_engine_on_another_tree_is_not_concluded(rt: HostRuntime) -> Result<(), Fai
     is_not_closed(&rt, &ended(&rt, engine, &mut succession)?);
     Ok(())
 }
+
+// A session that nobody hands in may have been told anything.
+#[test]
+fn an_engine_is_not_concluded_without_one_of_its_sessions(rt: HostRuntime) -> Result<(), Fail> {
+    let alloc = rt.alloc();
+    let (engine, mut succession) = open_engine(alloc, ONE_NODE.as_bytes(), USUAL_NODES)?;
+    let concluded = end_opened(
+        &rt,
+        alloc,
+        || Ok(engine),
+        &PROCEDURES,
+        |engine, _| {
+            let _lost = engine.session(&rt, alloc)?;
+            Ok(())
+        },
+        |engine, sessions| end_generation(alloc, engine, sessions, &mut succession),
+    )?;
+    is_not_closed(&rt, &concluded);
+    Ok(())
+}

@@ -87,6 +87,7 @@ fn audited(
     )?;
     assert_eq!(rt; audited.line.as_str(), line);
     assert!(rt; audited.replaced.is_empty());
+    audited.check_procedures()?;
     Ok(audited.last)
 }
 

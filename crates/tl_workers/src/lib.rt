@@ -10,6 +10,7 @@ mod batch;
 mod crew;
 mod engine;
 mod gate;
+mod genuine;
 mod help;
 pub mod laws;
 mod matching;

@@ -6,9 +6,11 @@ ghost use Rattle.tl_workers.specs.Lending.{LendsPass};
 ghost use Rattle.tl_workers.specs.declared.batch.TheConstants.{MAX_REQUESTS};
 ghost use Rattle.tl_workers.specs.declared.session.Did.TheVariants.{Asked, Got};
 ghost use Rattle.tl_workers.specs.Kept.{Gains, AsksAt, askings_of, gots_of};
+ghost use Rattle.tl_workers.specs.{WasSession};
 
 use crate::asking::Asking;
 use crate::batch::MAX_REQUESTS;
+use crate::genuine::{Shown, lemma_was_session};
 use crate::notes::Notes;
 use crate::refusal::Refusal;
 use std::alloc::{AllocError, Global};
@@ -61,6 +63,13 @@ impl Session {
         ensures { result ≡ self.now.number }
     {
         self.number
+    }
+
+    /// That a session had its value, for proofs.
+    pub fn lemma_was_session(&self)
+        ensures { WasSession self.now }
+    {
+        lemma_was_session::<Shown>(self);
     }
 
     /// How many entries its list has.

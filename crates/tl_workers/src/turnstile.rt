@@ -7,8 +7,9 @@ ghost use Rattle.tl_core.specs.declared.fault.CoreFault.TheVariants as core_faul
 ghost use Rattle.tl_table.specs.declared.epoch.TheConstants.{MAX_EPOCHS};
 ghost use Rattle.tl_table.specs.declared.fault.TableFault.TheVariants as fault;
 ghost use Rattle.tl_table.specs.Epochs.{seen, epoch_after, IsAtRest, IsAdmittedTo};
+ghost use Rattle.tl_workers.specs.Admitting.{IsFullEpoch, AdmitsOpen};
 ghost use Rattle.tl_workers.specs.Refusals.{IsAdmitRefused, IsTableSealRefused};
-ghost use Rattle.tl_workers.specs.declared.turnstile.Obstacle.TheVariants.{Other};
+ghost use Rattle.tl_workers.specs.declared.turnstile.Obstacle.TheVariants.{FullEpoch, Other};
 
 use std::alloc::Global;
 use tl_core::CoreFault;
@@ -26,7 +27,8 @@ enum Obstacle {
 }
 
 fn obstacle_of(refused: TableFault) -> Obstacle
-    ensures { result ≡ Other → IsAdmitRefused false refused → IsAdmitRefused true refused × (refused ≢ fault.Core core_fault.HistoryFull) }
+    ensures full { result ≡ FullEpoch → IsFullEpoch refused }
+    ensures other { result ≡ Other → IsAdmitRefused false refused → IsAdmitRefused true refused × (refused ≢ fault.Core core_fault.HistoryFull) }
 {
     match refused {
         TableFault::Core(CoreFault::TooManyCalls | CoreFault::HistoryFull) => Obstacle::FullEpoch,
@@ -66,6 +68,7 @@ impl Turnstile {
         ensures short { IfSome result (λ r. OnOk r (length name.now ≤ MAX_NAME)) }
         ensures few { IfSome result (λ r. OnOk r (length args.now ≤ MAX_ARGS)) }
         ensures closed { self.old.is_closed ≡ true → IfSome result (λ r. IfOk r (λ n. IsAdmittedTo (epoch_after self.old.table.current) session name.now args.now n self.new.table.current)) }
+        ensures while_open { self.old.is_closed ≡ false → AdmitsOpen self.old.table session name.now args.now result self.new.table self.new.is_closed }
         ensures waits { result ≡ None → self.new.table.current ≡ self.old.table.current }
         ensures refused { IfSome result (λ r. IfErr r (IsAdmitRefused true)) }
         ensures full { result ≡ Some (Err (fault.Core core_fault.HistoryFull)) → (seen self.new.table.current).calls ≡ [] }

@@ -10,6 +10,15 @@ use tl_file_export::Epochs;
 use tl_store_file::FileFault;
 use tl_trail::Trail;
 
+/// How trails are audited.
+#[derive(Clone, Copy, Debug)]
+pub(crate) struct Auditing {
+    /// Whether people are told what should stand where something is wrong.
+    pub(crate) explains: bool,
+    /// Whether a procedure may have no other code than in the file before.
+    pub(crate) keeps_procedures: bool,
+}
+
 // The number of a generation's file, by its name: `3.json`.
 fn number_of(name: &str) -> Option<u64> {
     let digits = name.strip_suffix(".json")?;
@@ -26,7 +35,7 @@ impl<'a, R: Files + Print + Eprint + AllocGlobal + Clone + Drop> Program<'a, R> 
     pub(crate) fn audit<'p, E, X>(
         &self,
         paths: &[&'p str],
-        explains: bool,
+        how: Auditing,
         opens: X,
     ) -> Result<String, Failure<'p>>
     where
@@ -36,23 +45,29 @@ impl<'a, R: Files + Print + Eprint + AllocGlobal + Clone + Drop> Program<'a, R> 
     {
         if let [path] = paths {
             if self.is_database(path)? {
+                if how.keeps_procedures {
+                    let _shown = eprintln!(self.rt;
+                        "treedb: {path} is a store: export it, and audit the folder"
+                    );
+                    return Err(Failure::Refused(CliFault::Replaced));
+                }
                 return self.audit_store(path, opens);
             }
             if !self.is_folder(path) {
-                return self.audit_alone(path, explains);
+                return self.audit_alone(path, how.explains);
             }
         }
-        self.audit_all(paths, explains)
+        self.audit_all(paths, how)
     }
 
     // The same of several files, or of a folder.
-    fn audit_all<'p>(&self, paths: &[&'p str], explains: bool) -> Result<String, Failure<'p>> {
+    fn audit_all<'p>(&self, paths: &[&'p str], how: Auditing) -> Result<String, Failure<'p>> {
         let mut before = None;
         for path in paths {
             before = if self.is_folder(path) {
-                self.audit_folder(path, before, explains)?
+                self.audit_folder(path, before, how)?
             } else {
-                Some(self.audit_next(path, before.as_ref(), explains)?)
+                Some(self.audit_next(path, before.as_ref(), how)?)
             };
         }
         Ok(String::new(self.rt.alloc()))
@@ -91,7 +106,7 @@ impl<'a, R: Files + Print + Eprint + AllocGlobal + Clone + Drop> Program<'a, R> 
         &self,
         path: &str,
         before: Option<&Trail>,
-        explains: bool,
+        how: Auditing,
     ) -> Result<Trail, Failure<'p>> {
         let file = match self.read_file(path) {
             Ok(file) => file,
@@ -105,6 +120,9 @@ impl<'a, R: Files + Print + Eprint + AllocGlobal + Clone + Drop> Program<'a, R> 
                 for name in &audited.replaced {
                     let _shown = eprintln!(self.rt; "treedb: {path}: {name} was replaced");
                 }
+                if how.keeps_procedures {
+                    audited.check_procedures()?;
+                }
                 match self.rt.print(audited.line.as_str()) {
                     Ok(()) => Ok(audited.last),
                     Err(_) => Err(Failure::Refused(CliFault::Unwritable)),
@@ -112,7 +130,7 @@ impl<'a, R: Files + Print + Eprint + AllocGlobal + Clone + Drop> Program<'a, R> 
             }
             Err(fault) => {
                 let _shown = eprintln!(self.rt; "treedb: {path}");
-                self.show_why(&file, before, fault, explains);
+                self.show_why(&file, before, fault, how.explains);
                 Err(self.misread(path, &file, fault))
             }
         }
@@ -132,7 +150,7 @@ impl<'a, R: Files + Print + Eprint + AllocGlobal + Clone + Drop> Program<'a, R> 
         &self,
         folder: &'p str,
         before: Option<Trail>,
-        explains: bool,
+        how: Auditing,
     ) -> Result<Option<Trail>, Failure<'p>> {
         let Some((first, last)) = self.numbers_in(folder)? else {
             let _shown = eprintln!(self.rt; "treedb: {folder} has no file 0.json");
@@ -141,7 +159,7 @@ impl<'a, R: Files + Print + Eprint + AllocGlobal + Clone + Drop> Program<'a, R> 
         let mut before = before;
         for number in first..=last {
             let path = format!(in self.rt.alloc(); "{folder}/{number}.json")?;
-            before = Some(self.audit_next(path.as_str(), before.as_ref(), explains)?);
+            before = Some(self.audit_next(path.as_str(), before.as_ref(), how)?);
         }
         Ok(before)
     }

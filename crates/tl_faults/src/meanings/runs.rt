@@ -2,7 +2,7 @@
 
 use crate::meanings::Meaning;
 
-pub fn from_701_to_801(number: u16) -> Option<Meaning> {
+pub fn from_701_to_790(number: u16) -> Option<Meaning> {
     match number {
         701 => Some(Meaning {
             parts: "",
@@ -64,6 +64,12 @@ pub fn from_701_to_801(number: u16) -> Option<Meaning> {
             when: "something is wrong with the trail; its fault's numbers follow",
             advice: "look up the number behind the trail's",
         }),
+        720 => Some(Meaning {
+            parts: "",
+            name: "procedure replaced",
+            when: "with `--same-procedures`: a procedure has another code than under its name in the file before; or the file is a store, of which this isn't compared",
+            advice: "allow it, if somebody put the procedure in the place of the other; `export` a store first",
+        }),
         731 => Some(Meaning {
             parts: "",
             name: "not a script",
@@ -82,18 +88,18 @@ pub fn from_701_to_801(number: u16) -> Option<Meaning> {
             when: "memory was refused for a trail or its audit",
             advice: "try again with more memory",
         }),
+        _ => None,
+    }
+}
+
+pub fn from_801_to_990(number: u16) -> Option<Meaning> {
+    match number {
         801 => Some(Meaning {
             parts: "",
             name: "stale segment",
             when: "the segment doesn't begin where its call is, or the call is done; only in the library",
             advice: "ask for the call's state again",
         }),
-        _ => None,
-    }
-}
-
-pub fn from_803_to_990(number: u16) -> Option<Meaning> {
-    match number {
         803 => Some(Meaning {
             parts: "",
             name: "no such session",
@@ -115,7 +121,7 @@ pub fn from_803_to_990(number: u16) -> Option<Meaning> {
         831 => Some(Meaning {
             parts: "",
             name: "not closed",
-            when: "a call isn't done, or the calls that were run aren't those that were asked for",
+            when: "a call isn't done, the calls that were run aren't those that were asked for, or a session is missing",
             advice: "it doesn't come in a run of the program; please report it",
         }),
         890 => Some(Meaning {

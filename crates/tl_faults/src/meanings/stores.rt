@@ -5,9 +5,9 @@ use crate::meanings::Meaning;
 pub fn from_1001_to_1014(number: u16) -> Option<Meaning> {
     match number {
         1001 => Some(Meaning {
-            parts: "",
+            parts: ", reason",
             name: "store not opened",
-            when: "the store's file can't be opened or made, is no regular file, or SQLite left a journal beside it",
+            when: "the store's file can't be opened or made: the reason is 1 for its rights or its folder's, 2 where there is no such folder, 3 where it is no regular file or has a second name, 4 where SQLite left a journal beside it, 5 where its file system has no locks, 6 for what the system says else",
             advice: "look at the path and its rights; where there is a journal, open the file once with `sqlite3`",
         }),
         1002 => Some(Meaning {

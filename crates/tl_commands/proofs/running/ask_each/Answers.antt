@@ -1,7 +1,9 @@
 use Rattle.std.proofs.Common.{◌≡◌, ◌+◌, ◌∷◌, [], ◌++◌, take, sym, ap, ap₂, ◌∙◌, subst, arith}
 use Rattle.std.specs.List.{All}
 use Rattle.std.proofs.lemmas.Grind.{common_steps}
+use Rattle.std.proofs.lemmas.List.Elements.{All-push}
 use Rattle.tl_workers.specs.Kept.{Gains, AnswersEach, asked_of, gots_of}
+use Rattle.tl_workers.specs.Refusals.{AreCallRefusals}
 use Rattle.tl_commands.specs.Run.{AnswersBatches, IsInEpoch, AreInEpochs, kept_of, batches_of, answers_of}
 use Rattle.tl_commands.proofs.RunLemmas.{answers_more, kept_more, batches_more, answers_pushed, gains_more, epochs_more, many_answers}
 use Rattle.tl_commands.proofs.running.ask_each.Goals as goal
@@ -15,6 +17,7 @@ loop-number-preserved g c =
     let all = answers_of c.loop-number.all.items in
     let a = c.in_ok-answers.answers.items in
     let old = c.args.session.now in
+    let seals = c.args.engine.now.seals in
     let now = c.loop-number.session in
     let new = c.batch.new.session in
     let same : c.deref.result.now ≡ b.items = c.deref.ensures.value in
@@ -30,4 +33,5 @@ loop-number-preserved g c =
       grind (arith, common_steps),
       grind (arith, common_steps),
       subst AreInEpochs (sym answers) (epochs_more all a i c.loop-number.invariant.4 (omega (arith, many_answers c.loop-number.all.items)) (subst (All (IsInEpoch i)) c.deref-in-loop-number.ensures.value (c.are_in_epoch.ensures.0 c.if-not-are_in_epoch.false))),
+      subst (All (AreCallRefusals seals)) (sym answers) (All-push (AreCallRefusals seals) all a c.loop-number.invariant.5 c.in_ok-answers.ensures.refused),
     )

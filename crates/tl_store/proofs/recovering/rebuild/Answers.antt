@@ -29,3 +29,10 @@ returns-clause-again c = λ v reached rows.
     let to = rows_lead c.args.stored.now v c.in_ok-core.core.seen c.in_ok-requests.requests.items c.in_ok-turns.turns.items reached rows c.in_ok-core.ensures.opened c.in_ok-core.ensures.limit same.0 same.1
     (rw c.as_slice.ensures.value at c.in_ok-requests.ensures.requests) (rw c.as_slice-2.ensures.value at c.in_ok-turns.ensures.turns) c.in_ok-turns.ensures.small in
     c.in-Err.ensures.again v (rw (c.as_slice-3.ensures.value, c.as_slice-4.ensures.value) to) rows.replies
+
+pub returns-in-Ok-clause-same : goal.returns-in-Ok-clause-same
+returns-in-Ok-clause-same c = λ v reached rows.
+    let same = c.in_ok-core.ensures.again v reached rows in
+    let to = rows_lead c.args.stored.now v c.in_ok-core.core.seen c.in_ok-requests.requests.items c.in_ok-turns.turns.items reached rows c.in_ok-core.ensures.opened c.in_ok-core.ensures.limit same.0 same.1
+    (rw c.as_slice.ensures.value at c.in_ok-requests.ensures.requests) (rw c.as_slice-2.ensures.value at c.in_ok-turns.ensures.turns) c.in_ok-turns.ensures.small in
+    c.in-Ok.ensures.same v (rw (c.as_slice-3.ensures.value, c.as_slice-4.ensures.value) to)

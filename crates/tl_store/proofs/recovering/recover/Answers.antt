@@ -1,4 +1,4 @@
-use Rattle.std.proofs.Common.{◌⊎◌, Result, Ok, Err, IfErr, inr}
+use Rattle.std.proofs.Common.{◌⊎◌, Result, Ok, Err, IfOk, IfErr, inr}
 use Rattle.std.proofs.lemmas.Result.{IfOk-weaker}
 use Rattle.sqlite_trees.specs.Tree.{Trees}
 use Rattle.sqlite_trees.specs.View.{IsClean}
@@ -9,7 +9,7 @@ use Rattle.tl_store.specs.declared.fault.StoreFault.{StoreFault}
 use Rattle.tl_store.specs.declared.stored.Stored.{Stored}
 use Rattle.tl_store.specs.Faults.{IsReadFault, IsOutOfMemory}
 use Rattle.tl_store.specs.Stored.{AreStored}
-use Rattle.tl_store.specs.Recovered.{AreOfCore, IsStoreOf}
+use Rattle.tl_store.specs.Recovered.{AreOfCore, IsStoreOf, IsMadeAgain}
 use Rattle.tl_store.proofs.recovering.recover.Goals as goal
 
 pub returns-clause-recovered : goal.returns-clause-recovered
@@ -28,3 +28,14 @@ read_again (Err e) rows again clean db stored = λ is_clean c v holds reached of
 pub returns-clause-again : goal.returns-clause-again
 returns-clause-again g c =
     read_again c.rebuild.result c.in_ok-stored.stored c.rebuild.ensures.again (IsClean (g.S.Store.view c.read_stored.new.store)) (g.S.Store.view c.args.store.now).trees c.in_ok-stored.ensures.stored
+
+-- the core that was made again is that of the rows
+same_again : {X : Type 0} (result : Result X StoreFault) (P : CoreValue → X → Type 0) (rows : Stored) → ((v : CoreValue) → IsReached v → AreOfCore rows v → IfOk result (P v))
+    → (clean : Type 0) (db : Trees) → (clean → (c : Contents) → Holds db c → AreStored c rows)
+    → IfOk result (λ r. clean → (c : Contents) (v : CoreValue) → Holds db c → IsReached v → IsStoreOf c v → P v r)
+same_again (Ok r) P rows same clean db stored = λ is_clean c v holds reached of. same v reached (of rows (stored is_clean c holds))
+same_again (Err e) P rows same clean db stored = tt
+
+pub returns-clause-same : goal.returns-clause-same
+returns-clause-same g c =
+    same_again c.rebuild.result (λ v r. IsMadeAgain v r.core.seen) c.in_ok-stored.stored c.rebuild.ensures.same (IsClean (g.S.Store.view c.read_stored.new.store)) (g.S.Store.view c.args.store.now).trees c.in_ok-stored.ensures.stored

@@ -1,4 +1,4 @@
-use Rattle.std.proofs.Common.{rules, ◌≡◌, ℕ, ◌<◌, refl, arith}
+use Rattle.std.proofs.Common.{rules, refl}
 use Rattle.sqlite_trees.specs.View.{IsClean}
 use Rattle.tl_ledger.specs.Contents.{no_contents, Holds}
 use Rattle.tl_ledger.specs.News.{after_founding, AreEmpty, IsMarked}

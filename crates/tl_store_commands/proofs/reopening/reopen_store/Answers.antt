@@ -1,13 +1,16 @@
-use Rattle.std.proofs.Common.{◌≡◌, ap, subst, sym, arith}
+use Rattle.std.proofs.Common.{ap, subst, sym, arith}
 use Rattle.sqlite_trees.specs.Tree.{Trees}
 use Rattle.sqlite_trees.specs.View.{IsClean}
 use Rattle.tl_ledger.specs.Contents.{Holds, IsAtRest, OnlyReads}
 use Rattle.tl_ledger.specs.News.{IsMarked}
 use Rattle.tl_store.specs.Stored.{AreStored}
+use Rattle.tl_store.specs.Recovered.{IsMadeAgain}
+use Rattle.tl_store_laws.proofs.Columns.{ledger_is_store}
+use Rattle.tl_store_commands.proofs.ReopeningLemmas.{resumed}
 use Rattle.tl_store_commands.proofs.reopening.reopen_store.Goals as goal
 
-pub returns : goal.returns
-returns g c = λ clean contents held.
+pub returns-clause-taken_up : goal.returns-clause-taken_up
+returns-clause-taken_up g c = λ clean contents held.
     let before = g.S.Store.view c.args.store in
     let after = g.S.Store.view c.read_stored.new.store in
     let same_store = c.new-ledger.ensures.0 in
@@ -33,3 +36,11 @@ returns g c = λ clean contents held.
       holds = closed.2;
       marked = closed.3;
     }
+
+pub returns-clause-resumes : goal.returns-clause-resumes
+unfolding returns-clause-taken_up
+returns-clause-resumes g c = λ clean contents v held reached old.
+    let taken = returns-clause-taken_up g c clean contents held in
+    let rows = ledger_is_store contents v old taken.rows taken.stored in
+    let made : IsMadeAgain v taken.last = c.in_ok-core.ensures.same v reached rows in
+    resumed contents v _ _ _ old reached taken made c.lemma_is_reached.ensures

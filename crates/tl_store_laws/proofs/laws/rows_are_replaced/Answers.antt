@@ -1,4 +1,4 @@
-use Rattle.tl_store_laws.specs.Batches.{batch_of}
+use Rattle.tl_rows.specs.Batches.{batch_of}
 use Rattle.tl_store_laws.proofs.Replace.{ledger_replaces}
 use Rattle.tl_store_laws.proofs.laws.rows_are_replaced.Goals as goal
 

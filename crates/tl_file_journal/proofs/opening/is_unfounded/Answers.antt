@@ -1,0 +1,15 @@
+use Rattle.std.proofs.Common.{arith}
+use Rattle.sqlite_store.specs.FileStore.{view}
+use Rattle.sqlite_trees.specs.View.{IsClean}
+use Rattle.tl_ledger.proofs.OnlyReading.{still_rests}
+use Rattle.tl_file_journal.proofs.opening.is_unfounded.Goals as goal
+
+pub has_no_rows-requires : goal.has_no_rows-requires
+has_no_rows-requires g c = λ clean. (c.args.rested.rests clean).tables
+
+pub invariant_of-result : goal.invariant_of-result
+invariant_of-result g c = record {
+  rests = λ clean.
+      let was : IsClean (view c.args.rested.store) = omega (arith, clean, c.has_no_rows.ensures.quiet.clean) in
+      still_rests (view c.args.rested.store) (view c.has_no_rows.new.store) (c.in-Ok.ensures.reads clean) (c.args.rested.rests was);
+}

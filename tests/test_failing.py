@@ -1,0 +1,338 @@
+"""Fails the disk at its calls: the program is killed there, or the call and all behind it fail. Then the next start has to have every answer that came. The gate tries some of the calls, `fuzz/disk` each.
+
+What a server says and how it ends is what docs/use/faults.md says: 1011 where the disk fails, 1012 where it is full, and status 3. `disk` says which calls are counted; where there is no C compiler,
+these tests are skipped.
+"""
+
+import contextlib
+import json
+import os
+import shutil
+from typing import NamedTuple
+
+from disk import FAILURES, Disk, library
+from running import Threads, chance, parametrize
+from serving import ADD, NotStarted, Peer, serving
+from test_store import STORE, batch, call, lines, stored
+
+KILLED = -9
+# What the record of examples/one-node.json begins with.
+OPENING = 5
+TEXT = "field value = 0; proc one() { emit 1; }"
+OTHER = "field value = 0; proc one() { emit 2; }"
+GROW = json.dumps({"op": "grow", "parents": [0, 1]})
+SEAL = json.dumps({"op": "seal"})
+# How many calls with a key are answered before.
+KEPT = 3
+# No request comes to so many calls of the disk.
+MOST = 400
+# The disk fails at its first call, at its last and at so many others, which are left to chance; or at each, as for `fuzz/disk`.
+SOME, IS_EACH = 4, bool(os.environ.get("TREEDB_EACH_CALL"))
+
+
+def keyed(key, amount=1):
+    return json.dumps({**json.loads(call(0, amount)), "key": key})
+
+
+def register(text):
+    return json.dumps({"op": "register", "text": text})
+
+
+def replace(text):
+    return json.dumps({"op": "replace", "text": text})
+
+
+class Request(NamedTuple):
+    """The lines that are asked while the disk fails, and those that were answered before."""
+
+    name: str
+    lines: tuple
+    before: tuple = ()
+
+
+# A generation has one epoch, so the call behind a seal is the next one's first.
+REQUESTS = [
+    Request("a call", (call(0, 10),)),
+    Request("a call with a key", (keyed("asked", 10),)),
+    Request("a batch", (batch(10, 20, 30),)),
+    Request("nodes", (GROW,)),
+    Request("a text", (register(TEXT),)),
+    Request("another text", (replace(OTHER),), (register(TEXT),)),
+    Request("a seal and a hand-over", (SEAL, call(0, 10))),
+]
+
+
+class Answers:
+    """What a server answered before its end: by key, by the number of a call, and what else."""
+
+    def __init__(self):
+        self.keyed, self.told = {}, []
+
+    def take(self, line, answer):
+        asked = json.loads(line)
+        if not answer.endswith("\n") or "error" in json.loads(answer):
+            return
+        self.told.append((asked, json.loads(answer)))
+        if "key" in asked:
+            self.keyed[asked["key"]] = json.loads(answer)
+
+    def sum(self):
+        """What the answered calls have added."""
+        amounts = [asked["args"][1] for asked, _ in self.told if asked["op"] == "call"]
+        return sum(amounts) + sum(args[1] for asked, _ in self.told if asked["op"] == "batch" for _, args in asked["calls"])
+
+    def values(self):
+        """The last reply of each."""
+        return [each["reply"] for asked, answer in self.told if asked["op"] in ("call", "batch") for each in answer.get("batch", [answer])]
+
+
+def ask_until_the_end(server, asked, answers):
+    """Asks line by line, until the server has ended the connection."""
+    with contextlib.suppress(OSError):
+        peer = Peer(server.port)
+        for line in asked:
+            answers.take(line, peer.ask(line))
+
+
+def copied(tests, name, to):
+    for suffix in ("", "-wal"):
+        tests.path(to + suffix).unlink(missing_ok=True)
+        if tests.path(name + suffix).exists():
+            shutil.copyfile(tests.path(name + suffix), tests.path(to + suffix))
+
+
+def ends_as_said(tests, name, run, what):
+    """A server whose disk failed, or that was killed there."""
+    if what == "kill":
+        return tests.check(f"{name}: it is killed", run.status == KILLED, run)
+    wanted = lines({"error": [FAILURES[what]]})
+    return tests.check(f"{name}: the status and the number", (run.status, run.out) == (3, wanted), run)
+
+
+def has_all(tests, name, store, answers):
+    """The next start has each answer, and the store is what its calls make of it."""
+    try:
+        with serving(tests, "--store", store, connections=None, tree=None) as server:
+            peer = Peer(server.port)
+            for key, answer in answers.keyed.items():
+                again = json.loads(peer.ask(keyed(key)))
+                tests.check(f"{name}: the next start has the answer to {key}", again.get("reply") == answer["reply"] and "stored" in again, (again, answer))
+            value = json.loads(peer.ask(call(0, 0)))["reply"][0]
+            tests.check(f"{name}: the next start has what was added", value >= OPENING + answers.sum(), (value, answers.told))
+            for asked, answer in answers.told:
+                if asked["op"] == "grow":
+                    grown = json.loads(peer.ask(call(answer["grown"] + len(asked["parents"]) - 1, 0)))
+                    tests.check(f"{name}: the next start has the nodes", grown.get("reply") == [0], grown)
+                if asked["op"] in ("register", "replace") and "text" in asked:
+                    one = json.loads(peer.ask(json.dumps({"op": "call", "proc": "one", "args": []})))
+                    wanted = [[2]] if asked["op"] == "replace" else [[1], [2]]
+                    tests.check(f"{name}: the next start has the procedure", one.get("reply") in wanted, one)
+            peer.close()
+            server.stop()
+            tests.check(f"{name}: the next start ends", server.end().status == 0, server.said)
+    except NotStarted as refused:
+        tests.check(f"{name}: the next start takes the store up", False, refused.run)
+        return
+    replies = [json.loads(reply) for reply, in stored(tests, store, "select reply from reply")]
+    missing = [reply for reply in answers.values() if reply not in replies]
+    tests.check(f"{name}: the next start has each reply", missing == [], missing)
+    run = tests.run("audit", store)
+    tests.check(f"{name}: the audit", run.status == 0, run)
+
+
+def at_its_calls(tests, name, what, disk, once, is_each=IS_EACH):
+    """Has `once` judge runs in which the disk fails, and say of each whether it came to that call."""
+    once(f"{name}, no {what}", MOST)
+    count = disk.calls()
+    numbers = range(1, count + 1)
+    tried = numbers if is_each else sorted({1, count, *chance(f"{name} {what}").sample(numbers, min(SOME, count))})
+    reached = [number for number in tried if once(f"{name}, {what} at disk call {number} of {count}", number)]
+    # The last ones may come later than the server's end is asked for.
+    tests.check(f"{name}, {what}: the disk fails", 1 in reached, (count, reached))
+
+
+@parametrize("requested", REQUESTS, ids=[each.name for each in REQUESTS])
+def test_requests(tests, requested):
+    """While a server works: each request, and the hand-over to the next generation."""
+    built, before = library(tests.folder), Answers()
+    with serving(tests, "--store", "before.db", "--generation", "1", connections=None) as server:
+        ask_until_the_end(server, [ADD, *(keyed(f"before {number}") for number in range(KEPT)), *requested.before], before)
+        server.kill()
+    for what in ("kill", *FAILURES):
+        disk = Disk(built, tests.folder)
+
+        def once(name, number, what=what, disk=disk):
+            copied(tests, "before.db", "tried.db")
+            answers = Answers()
+            answers.keyed, answers.told = dict(before.keyed), list(before.told)
+            with serving(tests, "--store", "tried.db", "--generation", "1", connections=None, tree=None, env=disk.failing(number, what, later=True)) as server:
+                Peer(server.port).ask(keyed("before 0"))
+                disk.now()
+                ask_until_the_end(server, requested.lines, answers)
+                if disk.calls() < number:
+                    return False
+                ends_as_said(tests, name, server.end(), what)
+            has_all(tests, name, "tried.db", answers)
+            return True
+
+        at_its_calls(tests, requested.name, what, disk, once)
+
+
+# How many connections ask at once, and at which calls of the disk it fails then.
+CALLERS = 8
+FAILING = (4, 7, 13, 20, 31)
+
+
+def ask_until_it_ends(server, own, answers):
+    """Asks with keys of its own, one after another, until the server has ended the connection."""
+    ask_until_the_end(server, (keyed(f"{own} {number}") for number in range(2_000)), answers)
+
+
+def test_many_connections(tests):
+    """Of several connections whose calls share commits, none has an answer that isn't stored."""
+    built = library(tests.folder)
+    for what in ("kill", *FAILURES):
+        for number in FAILING:
+            disk, name = Disk(built, tests.folder), f"{CALLERS} connections, {what} at disk call {number}"
+            for suffix in ("", "-wal"):
+                tests.path(STORE + suffix).unlink(missing_ok=True)
+            with serving(tests, "--store", STORE, connections=None, env=disk.failing(number, what, later=True)) as server:
+                Peer(server.port).ask(ADD)
+                own = [Answers() for _ in range(CALLERS)]
+                threads = Threads(*[(ask_until_it_ends, server, place, answers) for place, answers in enumerate(own)])
+                disk.now()
+                threads.join()
+                ends_as_said(tests, name, server.end(), what)
+            every = Answers()
+            every.keyed = {key: answer for answers in own for key, answer in answers.keyed.items()}
+            every.told = [each for answers in own for each in answers.told]
+            has_all(tests, name, STORE, every)
+
+
+def test_first_start(tests):
+    """A first start that is broken off has made a store, or none: the next one with the same words makes it, or a start without a tree takes it up."""
+    built = library(tests.folder)
+    for what in ("kill", *FAILURES):
+        disk = Disk(built, tests.folder)
+
+        def once(name, number, what=what, disk=disk):
+            for suffix in ("", "-wal"):
+                tests.path(STORE + suffix).unlink(missing_ok=True)
+            if not fails_at_start(tests, disk, name, what, number, tree="examples/one-node.json"):
+                return False
+            found = [start_of(tests, tree) for tree in (None, "examples/one-node.json")]
+            tests.check(f"{name}: a store is made or none is there", any(run.status == 0 for run in found), found)
+            return True
+
+        at_its_calls(tests, "a first start", what, disk, once, is_each=IS_EACH or what == "kill")
+
+
+def start_of(tests, tree):
+    """What a server comes to that is stopped when it has started."""
+    try:
+        with serving(tests, "--store", STORE, connections=None, tree=tree) as server:
+            server.stop()
+            return server.end()
+    except NotStarted as refused:
+        return refused.run
+
+
+def fails_at_start(tests, disk, name, what, number, tree=None, reads=False):
+    """Whether a start comes to that call of the disk, and then it ends as it is said."""
+    try:
+        with serving(tests, "--store", STORE, connections=None, tree=tree, env=disk.failing(number, what, reads=reads)) as server:
+            # Some calls come behind the first lines that a server says.
+            server.stop()
+            run = server.end()
+    except NotStarted as refused:
+        run = refused.run
+    if disk.calls() < number:
+        tests.check(f"{name}: it isn't reached", run.status == 0, run)
+        return False
+    if what == "kill":
+        tests.check(f"{name}: it is killed", run.status == KILLED, run)
+    else:
+        wanted = lines({"error": [FAILURES[what]]})
+        tests.check(f"{name}: the status and the number", (run.status, run.out) == (3, wanted), run)
+    return True
+
+
+def later_start(tests, name, end):
+    """Starts on a store that has answers, which `end` has ended."""
+    built, answers = library(tests.folder), Answers()
+    with serving(tests, "--store", "before.db", connections=None) as server:
+        ask_until_the_end(server, [ADD, *(keyed(f"before {number}") for number in range(KEPT)), batch(1, 2)], answers)
+        end(server)
+    for what, reads in (("kill", False), ("EIO", True), ("ENOSPC", False)):
+        disk = Disk(built, tests.folder)
+
+        def once(tried, number, what=what, reads=reads, disk=disk):
+            copied(tests, "before.db", STORE)
+            if not fails_at_start(tests, disk, tried, what, number, reads=reads):
+                return False
+            has_all(tests, tried, STORE, answers)
+            return True
+
+        at_its_calls(tests, name, what, disk, once)
+
+
+def stop(server):
+    server.stop()
+    server.end()
+
+
+def test_start(tests):
+    """A start on a store whose server was stopped in order. Of a disk that fails, reads fail too."""
+    later_start(tests, "a start", stop)
+
+
+def test_recovery(tests):
+    """A start on a store whose server was killed."""
+    later_start(tests, "a recovery", lambda server: server.kill())
+
+
+def test_copies(tests):
+    """A copy that doesn't become whole leaves no file of its name, and the server and its store stay as they are; after a kill the next copy has that name."""
+    built = library(tests.folder)
+    tests.path("copies").mkdir()
+    with serving(tests, "--store", "before.db", connections=None) as server:
+        answers = Answers()
+        ask_until_the_end(server, [ADD, *(keyed(f"before {number}") for number in range(KEPT))], answers)
+        server.kill()
+    for what in ("kill", *FAILURES):
+        disk = Disk(built, tests.folder)
+
+        def once(name, number, what=what, disk=disk):
+            copied(tests, "before.db", "tried.db")
+            for file in tests.path("copies").iterdir():
+                file.unlink()
+            words = ["--store", "tried.db", "--snapshots", "copies"]
+            with serving(tests, *words, connections=None, tree=None, env=disk.failing(number, what, later=True)) as server:
+                Peer(server.port).ask(keyed("before 0"))
+                disk.now()
+                run = tests.run("snapshot", "--port", str(server.control), "one.db")
+                if disk.calls() < number:
+                    tests.check(f"{name}: a copy is made", run.status == 0, run)
+                    return False
+                judge_copy(tests, name, what, run, server)
+            if tests.path("copies/one.db").exists():
+                has_all(tests, f"{name}: the copy", "copies/one.db", answers)
+                for file in tests.path("copies").iterdir():
+                    file.unlink()
+            with serving(tests, *words, connections=None, tree=None) as server:
+                run = tests.run("snapshot", "--port", str(server.control), "one.db")
+                tests.check(f"{name}: the next copy", run.status == 0, run)
+            has_all(tests, name, "tried.db", answers)
+            return True
+
+        at_its_calls(tests, "a copy", what, disk, once)
+
+
+def judge_copy(tests, name, what, run, server):
+    """What the one who asked for a copy is told where it fails."""
+    if what == "kill":
+        tests.check(f"{name}: nobody is told of a copy", run.out == "" or "error" in run.out, run)
+        return
+    told = json.loads(run.out)
+    tests.check(f"{name}: the number", (run.status, told) == (3, {"error": [32]}), run)
+    tests.check(f"{name}: no file has its name", not tests.path("copies/one.db").exists(), [*tests.path("copies").iterdir()])
