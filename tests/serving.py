@@ -126,7 +126,9 @@ class Peer:
         return self.lines.readline()
 
     def close(self):
-        self.socket.shutdown(socket.SHUT_RDWR)
+        # The other end may be gone.
+        with contextlib.suppress(OSError):
+            self.socket.shutdown(socket.SHUT_RDWR)
 
     def rest(self):
         """What is answered up to the end of the connection. A connection that is reset has ended too."""
