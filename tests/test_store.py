@@ -83,6 +83,8 @@ def test_a_store(tests):
     tests.check("its nodes", stored(tests, STORE, "select * from node") == [(0, 0, 0)], stored(tests, STORE, "select * from node"))
     tests.check("its procedures", stored(tests, STORE, "select number, name from procedure") == [(0, "add")], stored(tests, STORE, "select number, name from procedure"))
     tests.check("its soundness", stored(tests, STORE, "pragma integrity_check") == [("ok",)], stored(tests, STORE, "pragma integrity_check"))
+    page = [line.strip() for line in (TOP / "docs/use/store-format.md").read_text().splitlines() if line.startswith("    CREATE ")]
+    tests.check("its tables are those of the page on its format", stored(tests, STORE, "select sql from sqlite_master") == [(sql,) for sql in page], page)
     before = tests.bytes(STORE)
     words = ["serve", "--port", str(free_port()), "--store", STORE, "--tree", "examples/one-node.json"]
     tests.answers("a store, and a tree", words, 1, lines({"error": [1009]}))

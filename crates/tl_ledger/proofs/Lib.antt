@@ -1,5 +1,6 @@
 mod RowLemmas
 mod CommitLemmas
+mod FieldLemmas
 mod SomeLemmas
 mod ReadLemmas
 pub mod OnlyReading

@@ -1,6 +1,7 @@
 -- Reading rows one after another, from any row on, and the last row.
-use Rattle.std.proofs.Common.{◌≡◌, ℕ, zero, suc, ◌+◌, ◌<◌, ◌≤◌, pos, List, [], ◌∷◌, ◌++◌, length, map, drop, reverse, refl, sym, ap, ◌∙◌, subst, arith, Some, Less, Equal, true, false}
+use Rattle.std.proofs.Common.{◌≡◌, ℕ, zero, suc, ◌+◌, ◌<◌, ◌≤◌, pos, All, List, [], ◌∷◌, ◌++◌, length, map, drop, reverse, refl, sym, ap, ◌∙◌, subst, arith, Some, Less, Equal, true, false}
 use Rattle.std.proofs.lemmas.List.{append-nil, reverse-append, reverse-reverse, length-append, length-reverse}
+use Rattle.std.proofs.lemmas.List.Elements.{All-head, All-tail}
 use Rattle.sqlite_value.specs.declared.value.Value.TheVariants.{Int}
 use Rattle.sqlite_value.specs.declared.keys.Order.{Order}
 use Rattle.sqlite_value.specs.Keys.{plain}
@@ -9,6 +10,7 @@ use Rattle.sqlite_value.proofs.OrderLemmas.{value_cmp-Int}
 use Rattle.sqlite_trees.specs.Tree.{Trees, from_key, up_to_key}
 use Rattle.sqlite_trees.specs.View.{View, Advances}
 use Rattle.sqlite_trees.proofs.TreeLemmas.{prefix_cmp-one}
+use Rattle.tl_ledger.specs.Entries.{BeginsWithEntry}
 use Rattle.tl_ledger.specs.Rows.{rows_from, IsLastRow}
 use Rattle.tl_ledger.proofs.RowLemmas.{less_numbers, same_numbers}
 
@@ -129,3 +131,33 @@ last_given old mid new rows columns row false is sought moves =
 pub trees_given : (mid new : View) (row : Row) (found : Rattle.std.proofs.Common.Bool) → Advances mid new 0 row found → new.trees ≡ mid.trees
 trees_given mid new row true moves = ap (λ v. v.trees) moves.2
 trees_given mid new row false moves = ap (λ v. v.trees) moves.1
+
+-- ---- rows of entries
+
+-- what is left behind the first rows begins with the row of an entry, if all rows are those of entries
+pub next_entry : {X : Type 0} (is_whole : X → Type 0) (columns : X → Row) (first : ℕ) (xs : List X) (done left : List Row) → All is_whole xs → rows_from first (map columns xs) ≡ rows_from first done ++ left
+    → BeginsWithEntry is_whole columns (first + length done) left
+next_entry is_whole columns first [] [] left whole e = subst (BeginsWithEntry is_whole columns (first + 0)) e tt
+next_entry is_whole columns first (x ∷ xs) [] left whole e =
+    let k : first ≡ first + 0 = omega arith in
+    subst (BeginsWithEntry is_whole columns (first + 0)) e (x, All-head is_whole x xs whole, ap (λ n. Int (pos n) ∷ columns x) k)
+next_entry is_whole columns first [] (d ∷ done) left whole e = absurd (let l = ap length e in omega arith)
+next_entry is_whole columns first (x ∷ xs) (d ∷ done) left whole e =
+    let tails : rows_from (first + 1) (map columns xs) ≡ rows_from (first + 1) done ++ left = cc in
+    let k : first + 1 + length done ≡ first + length (d ∷ done) = omega arith in
+    subst (λ n. BeginsWithEntry is_whole columns n left) k (next_entry is_whole columns (first + 1) xs done left (All-tail is_whole x xs whole) tails)
+
+-- no more rows were read than there are
+pub no_more_rows : (first : ℕ) (all done left : List Row) → rows_from first all ≡ rows_from first done ++ left → length done ≤ length all
+no_more_rows first all [] left e = omega arith
+no_more_rows first [] (d ∷ done) left e = absurd (let l = ap length e in omega arith)
+no_more_rows first (x ∷ all) (d ∷ done) left e =
+    let tails : rows_from (first + 1) all ≡ rows_from (first + 1) done ++ left = cc in
+    let fewer = no_more_rows (first + 1) all done left tails in
+    omega (arith, fewer)
+
+-- how many rows there are behind the first ones
+pub behind_first : (first : ℕ) (all : List Row) → first ≤ length all → {n : ℕ} → n ≡ length (drop first all) → first + n ≡ length all
+behind_first zero all few is = omega (arith, is)
+behind_first (suc first) [] few is = absurd (omega (arith, few))
+behind_first (suc first) (x ∷ all) few is = let rest = behind_first first all (omega (arith, few)) is in omega (arith, rest)

@@ -1,3 +1,4 @@
 pub mod Rows
 pub mod Contents
 pub mod News
+pub mod Entries

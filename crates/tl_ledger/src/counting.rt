@@ -1,10 +1,12 @@
 // The last row of a table, and how many rows there are.
 
-ghost use Rattle.std.specs.Prelude.{◌≡◌, ◌<◌, ◌^◌, List, [], pos, length, IsTrue, IfOk, IfSome, IfNone, OnOk};
+ghost use Rattle.std.specs.Prelude.{◌≡◌, ◌<◌, ◌^◌, ℕ, List, [], pos, length, IsTrue, IsSome, IfOk, IfErr, IfSome, IfNone, OnOk};
 ghost use Rattle.sqlite_trees.specs.View.{IsClean, IsQuiet, KeepsSchema};
 ghost use Rattle.sqlite_value.specs.Order.{column, Row as Columns};
 ghost use Rattle.sqlite_value.specs.declared.value.Value.TheVariants.{Int};
 ghost use Rattle.tl_ledger.specs.Contents.{OnlyReads, Contents, Holds, AreTables};
+ghost use Rattle.tl_ledger.specs.declared.committing.Marks.{Marks as Marked};
+ghost use Rattle.tl_ledger.specs.Entries.{IsOfStore, EndsWithEntry};
 ghost use Rattle.tl_ledger.specs.News.{IsMarked};
 ghost use Rattle.tl_ledger.specs.Rows.{rows_from, IsLast, IsLastRow};
 
@@ -35,6 +37,7 @@ fn last_row<S: Store>(store: &mut S, row: &mut Row, table: u32) -> Result<bool, 
 fn number_of(row: &Row) -> Option<u64>
     ensures number { IfSome result (λ n. column row.now 0 ≡ Int (pos n)) }
     ensures small { IfSome result (λ n. n < 2 ^ 63) }
+    ensures again { (n : ℕ) → column row.now 0 ≡ Int (pos n) → IsSome result }
 {
     match row.get(0) {
         ValueRef::Int(id) if id >= 0 => Some(id as u64),
@@ -53,6 +56,8 @@ pub fn read_last<S: Store, T: ReadEntry + Drop>(
         → columns ≡ [])) }
     ensures last { IfOk result (λ o. IfSome o (λ l. IsClean (S.Store.view store.new) → (columns : List Columns) → (S.Store.view store.old).trees table ≡ rows_from 0 columns
         → IsLast columns l.0 (T.Entry.columns l.1))) }
+    ensures again { IfErr result (λ e. IsClean (S.Store.view store.new) → (columns : List Columns) → (S.Store.view store.old).trees table ≡ rows_from 0 columns
+        → EndsWithEntry T.ReadEntry.is_whole T.Entry.columns columns → IsOfStore e) }
     ensures reads { OnOk result (IsClean (S.Store.view store.new) → OnlyReads (S.Store.view store.old) (S.Store.view store.new)) }
     ensures schema { KeepsSchema (S.Store.view store.old) (S.Store.view store.new) }
     ensures quiet { IsQuiet S.Store.view S.Store.faults S.Store.recovers S.Store.is_shielded store.old store.new }
@@ -75,6 +80,7 @@ pub fn count_rows<S: Store>(store: &mut S, row: &mut Row, table: u32) -> Result<
     requires { IsClean (S.Store.view store.old) → (S.Store.view store.old).shape table ≡ Shape.Table }
     ensures count { IfOk result (λ n. IsClean (S.Store.view store.new) → (columns : List Columns) → (S.Store.view store.old).trees table ≡ rows_from 0 columns
         → length columns ≡ n) }
+    ensures again { IfErr result (λ e. IsClean (S.Store.view store.new) → (columns : List Columns) → (S.Store.view store.old).trees table ≡ rows_from 0 columns → IsOfStore e) }
     ensures reads { OnOk result (IsClean (S.Store.view store.new) → OnlyReads (S.Store.view store.old) (S.Store.view store.new)) }
     ensures schema { KeepsSchema (S.Store.view store.old) (S.Store.view store.new) }
     ensures quiet { IsQuiet S.Store.view S.Store.faults S.Store.recovers S.Store.is_shielded store.old store.new }
@@ -92,6 +98,7 @@ pub fn count_rows<S: Store>(store: &mut S, row: &mut Row, table: u32) -> Result<
 pub fn marks_of<S: Store>(alloc: Global, store: &mut S) -> Result<Marks, ReadFault>
     requires { IsClean (S.Store.view store.old) → AreTables (S.Store.view store.old) }
     ensures marks { IfOk result (λ marks. IsClean (S.Store.view store.new) → (c : Contents) → Holds (S.Store.view store.old).trees c → IsMarked c marks) }
+    ensures again { IfErr result (λ e. IsClean (S.Store.view store.new) → (c : Contents) (marks : Marked) → Holds (S.Store.view store.old).trees c → IsMarked c marks → IsOfStore e) }
     ensures reads { OnOk result (IsClean (S.Store.view store.new) → OnlyReads (S.Store.view store.old) (S.Store.view store.new)) }
     ensures schema { KeepsSchema (S.Store.view store.old) (S.Store.view store.new) }
     ensures quiet { IsQuiet S.Store.view S.Store.faults S.Store.recovers S.Store.is_shielded store.old store.new }

@@ -1,4 +1,10 @@
-// The kinds of rows, read.
+// The kinds of rows, read. Of each row an item is made, with zeros and empty texts where the row has none; it is the item's row if it is what the item is written as.
+
+ghost use Rattle.std.specs.Prelude.{◌≡◌, ℤ, String as Words, List, ℕ, IfOk, string_bytes, Option};
+ghost use Rattle.std.specs.declared.alloc.Global.{Global as Heap};
+ghost use Rattle.sqlite_value.specs.Order.{column};
+ghost use Rattle.sqlite_value.specs.declared.value.Value.TheVariants.{Int, Text, Blob};
+ghost use Rattle.tl_ledger.specs.News.{key_column};
 
 use crate::reading::{ReadEntry, if_row_of};
 use crate::rows::{CallRow, FIELDS, NodeRow, ProcedureRow, RecordRow, ReplyRow, SealRow, TurnRow};
@@ -6,91 +12,101 @@ use sqlite_value::row::Row;
 use sqlite_value::value::ValueRef;
 use std::alloc::{AllocError, Global};
 
-// The text, if it is one.
-fn text_of(alloc: Global, bytes: &[u8]) -> Result<Option<String>, AllocError> {
-    match str::from_utf8(bytes) {
-        Ok(text) => Ok(Some(String::from_str(alloc, text)?)),
-        Err(_) => Ok(None),
+// The integer of a column; 0 if it is none.
+fn integer_at(row: &Row, at: usize) -> i64
+    ensures { (number : ℤ) → column row.now at ≡ Int number → result ≡ number }
+{
+    match row.get(at) {
+        ValueRef::Int(number) => number,
+        _ => 0,
+    }
+}
+
+// The text of a column; an empty one if it is none.
+fn text_at(alloc: Global, row: &Row, at: usize) -> Result<String, AllocError>
+    ensures { (text : Words Heap) → column row.now at ≡ Text (string_bytes text) → IfOk result (λ t. string_bytes t ≡ string_bytes text) }
+{
+    match row.get(at) {
+        ValueRef::Text(bytes) => String::from_str(alloc, str::from_utf8(bytes).unwrap_or("")),
+        _ => Ok(String::new(alloc)),
+    }
+}
+
+// The bytes of a column; none if it has none.
+fn bytes_at(alloc: Global, row: &Row, at: usize) -> Result<Vec<u8>, AllocError>
+    ensures { (bytes : List ℕ) → column row.now at ≡ Blob bytes → IfOk result (λ v. v.items ≡ bytes) }
+{
+    match row.get(at) {
+        ValueRef::Blob(bytes) => Vec::from_slice(alloc, bytes),
+        _ => Ok(Vec::new(alloc)),
+    }
+}
+
+// The key of a column, if it has one.
+fn key_at(alloc: Global, row: &Row, at: usize) -> Result<Option<String>, AllocError>
+    ensures { (key : Option (Words Heap)) → column row.now at ≡ key_column key → IfOk result (λ k. key_column k ≡ key_column key) }
+{
+    match row.get(at) {
+        ValueRef::Text(_) => Ok(Some(text_at(alloc, row, at)?)),
+        _ => Ok(None),
     }
 }
 
 impl ReadEntry for ProcedureRow {
+    ghost is_whole = { λ _. Unit {0} };
+
     fn read(alloc: Global, row: &Row) -> Result<Option<ProcedureRow>, AllocError> {
-        let (ValueRef::Text(name), ValueRef::Blob(container)) = (row.get(2), row.get(3)) else {
-            return Ok(None);
+        let procedure = ProcedureRow {
+            name: text_at(alloc, row, 2)?,
+            container: bytes_at(alloc, row, 3)?,
         };
-        let Some(name) = text_of(alloc, name)? else {
-            return Ok(None);
-        };
-        let container = Vec::from_slice(alloc, container)?;
-        if_row_of(alloc, ProcedureRow { name, container }, row)
+        if_row_of(alloc, procedure, row)
     }
 }
 
 impl ReadEntry for CallRow {
+    ghost is_whole = { λ _. Unit {0} };
+
     fn read(alloc: Global, row: &Row) -> Result<Option<CallRow>, AllocError> {
-        let (ValueRef::Int(epoch), ValueRef::Int(number)) = (row.get(2), row.get(3)) else {
-            return Ok(None);
-        };
-        let (ValueRef::Text(procedure), ValueRef::Text(arguments)) = (row.get(4), row.get(5)) else {
-            return Ok(None);
-        };
-        let (Some(procedure), Some(arguments)) = (
-            text_of(alloc, procedure)?,
-            text_of(alloc, arguments)?,
-        ) else {
-            return Ok(None);
-        };
-        let key = match row.get(6) {
-            ValueRef::Text(key) => text_of(alloc, key)?,
-            _ => None,
-        };
         let call = CallRow {
-            epoch,
-            number,
-            procedure,
-            arguments,
-            key,
+            epoch: integer_at(row, 2),
+            number: integer_at(row, 3),
+            procedure: text_at(alloc, row, 4)?,
+            arguments: text_at(alloc, row, 5)?,
+            key: key_at(alloc, row, 6)?,
         };
         if_row_of(alloc, call, row)
     }
 }
 
 impl ReadEntry for TurnRow {
+    ghost is_whole = { λ _. Unit {0} };
+
     fn read(alloc: Global, row: &Row) -> Result<Option<TurnRow>, AllocError> {
-        let (ValueRef::Int(epoch), ValueRef::Blob(calls)) = (row.get(2), row.get(3)) else {
-            return Ok(None);
+        let turns = TurnRow {
+            epoch: integer_at(row, 2),
+            calls: bytes_at(alloc, row, 3)?,
         };
-        let calls = Vec::from_slice(alloc, calls)?;
-        if_row_of(alloc, TurnRow { epoch, calls }, row)
+        if_row_of(alloc, turns, row)
     }
 }
 
 impl ReadEntry for ReplyRow {
-    fn read(alloc: Global, row: &Row) -> Result<Option<ReplyRow>, AllocError> {
-        let (ValueRef::Int(epoch), ValueRef::Int(call), ValueRef::Text(reply)) = (
-            row.get(2),
-            row.get(3),
-            row.get(4),
-        ) else {
-            return Ok(None);
-        };
-        let Some(reply) = text_of(alloc, reply)? else {
-            return Ok(None);
-        };
-        if_row_of(alloc, ReplyRow { epoch, call, reply }, row)
-    }
-}
+    ghost is_whole = { λ _. Unit {0} };
 
-// The integer of a column; 0 if it is none.
-fn integer_at(row: &Row, column: usize) -> i64 {
-    match row.get(column) {
-        ValueRef::Int(number) => number,
-        _ => 0,
+    fn read(alloc: Global, row: &Row) -> Result<Option<ReplyRow>, AllocError> {
+        let reply = ReplyRow {
+            epoch: integer_at(row, 2),
+            call: integer_at(row, 3),
+            reply: text_at(alloc, row, 4)?,
+        };
+        if_row_of(alloc, reply, row)
     }
 }
 
 impl ReadEntry for NodeRow {
+    ghost is_whole = { λ _. Unit {0} };
+
     fn read(alloc: Global, row: &Row) -> Result<Option<NodeRow>, AllocError> {
         let node = NodeRow {
             parent: integer_at(row, 2),
@@ -101,6 +117,11 @@ impl ReadEntry for NodeRow {
 }
 
 impl ReadEntry for RecordRow {
+    ghost use Rattle.std.specs.Prelude.{length};
+    ghost use Rattle.tl_ledger.specs.declared.rows.TheConstants.{FIELDS};
+
+    ghost is_whole = { λ r. length r.fields ≡ FIELDS };
+
     fn read(alloc: Global, row: &Row) -> Result<Option<RecordRow>, AllocError> {
         let mut fields = [0; FIELDS];
         for number in 0..FIELDS {
@@ -111,6 +132,8 @@ impl ReadEntry for RecordRow {
 }
 
 impl ReadEntry for SealRow {
+    ghost is_whole = { λ _. Unit {0} };
+
     fn read(alloc: Global, row: &Row) -> Result<Option<SealRow>, AllocError> {
         let seal = SealRow {
             procedures: integer_at(row, 2),

@@ -1,9 +1,10 @@
 // So many rows of a table, from any of them on.
 
-ghost use Rattle.std.specs.Prelude.{◌≡◌, ◌+◌, ◌≤◌, List, map, length, take, drop, Some, IsSome, IfOk, OnOk};
+ghost use Rattle.std.specs.Prelude.{All, ◌≡◌, ◌+◌, ◌≤◌, ◌<◌, List, map, length, take, drop, Some, IsSome, IfOk, IfErr, OnOk};
 ghost use Rattle.sqlite_trees.specs.View.{IsClean, IsQuiet, KeepsSchema};
 ghost use Rattle.sqlite_value.specs.Order.{Row as Columns};
 ghost use Rattle.tl_ledger.specs.Contents.{OnlyReads};
+ghost use Rattle.tl_ledger.specs.Entries.{IsOfStore};
 ghost use Rattle.tl_ledger.specs.Rows.{rows_from};
 
 use crate::reading::{MAX_ROWS, ReadEntry, ReadFault, next_item};
@@ -26,6 +27,8 @@ fn read_next<S: Store, T: ReadEntry + Drop>(
     requires small { last ≤ MAX_ROWS }
     ensures rows { IfOk result (λ items. IsClean (S.Store.view store.new) → (columns : List Columns) → (S.Store.view store.old).cursors 0 ≡ Some (rows_from first columns)
         → map T.Entry.columns items.items ≡ take (length items.items) columns) }
+    ensures again { IfErr result (λ e. IsClean (S.Store.view store.new) → (xs : List T) → All T.ReadEntry.is_whole xs → last ≤ first + length xs
+        → (S.Store.view store.old).cursors 0 ≡ Some (rows_from first (map T.Entry.columns xs)) → IsOfStore e) }
     ensures count { IfOk result (λ items. first + length items.items ≡ last) }
     ensures reads { OnOk result (IsClean (S.Store.view store.new) → OnlyReads (S.Store.view store.old) (S.Store.view store.new)) }
     ensures schema { KeepsSchema (S.Store.view store.old) (S.Store.view store.new) }
@@ -44,7 +47,8 @@ fn read_next<S: Store, T: ReadEntry + Drop>(
     Ok(items)
 }
 
-/// The rows from number `first` on and below `last`, of a table whose rows are numbered from 0 on. No other rows are read.
+/// The rows from number `first` on and below `last`, of a table whose rows are numbered from 0 on. No other rows are read. If there are so many rows, at most 2^62,
+/// and those from `first` on are of entries, only the disk or memory can fail.
 pub fn read_some<S: Store, T: ReadEntry + Drop>(
     alloc: Global,
     store: &mut S,
@@ -56,6 +60,8 @@ pub fn read_some<S: Store, T: ReadEntry + Drop>(
     requires order { first ≤ last }
     ensures rows { IfOk result (λ items. IsClean (S.Store.view store.new) → (columns : List Columns) → (S.Store.view store.old).trees table ≡ rows_from 0 columns
         → first ≤ length columns → map T.Entry.columns items.items ≡ take (length items.items) (drop first columns)) }
+    ensures again { IfErr result (λ e. IsClean (S.Store.view store.new) → (columns : List Columns) → (S.Store.view store.old).trees table ≡ rows_from 0 columns
+        → last ≤ length columns → length columns ≤ MAX_ROWS → (xs : List T) → All T.ReadEntry.is_whole xs → map T.Entry.columns xs ≡ drop first columns → IsOfStore e) }
     ensures count { IfOk result (λ items. first + length items.items ≡ last) }
     ensures reads { OnOk result (IsClean (S.Store.view store.new) → OnlyReads (S.Store.view store.old) (S.Store.view store.new)) }
     ensures schema { KeepsSchema (S.Store.view store.old) (S.Store.view store.new) }

@@ -6,3 +6,4 @@ mod ReplyLemmas
 mod ClosingLemmas
 mod ProcedureLemmas
 pub mod AgainLemmas
+pub mod DiskLemmas

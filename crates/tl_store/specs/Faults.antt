@@ -2,6 +2,8 @@
 use Rattle.std.specs.Prelude.{◌≡◌, ℕ, List, [], ◌∷◌}
 use Rattle.sqlite_trees.specs.declared.error.StoreError.{StoreError}
 use Rattle.sqlite_trees.specs.declared.error.StoreError.TheVariants as name
+use Rattle.tl_ledger.specs.declared.reading.ReadFault.{ReadFault}
+use Rattle.tl_ledger.specs.Entries.{IsOfStore}
 use Rattle.tl_recover.specs.Faults.{numbers_of as turn_numbers_of, out_of_memory}
 use Rattle.tl_store.specs.declared.fault.StoreFault.{StoreFault}
 use Rattle.tl_store.specs.declared.fault.StoreFault.TheVariants.{BadRow, Turn, WrongReply, DiskFailed, DiskFull, Damaged, Other, Memory}
@@ -38,6 +40,22 @@ IsReadFault Memory = Unit {0}
 IsReadFault (Turn fault) = ⊥
 IsReadFault Other = ⊥
 IsReadFault (WrongReply call) = ⊥
+
+-- the disk failed, or memory was refused: nothing that the rows say
+abbrev pub IsDiskOrMemory : StoreFault → Type 0
+IsDiskOrMemory DiskFailed = Unit {0}
+IsDiskOrMemory DiskFull = Unit {0}
+IsDiskOrMemory Damaged = Unit {0}
+IsDiskOrMemory Memory = Unit {0}
+IsDiskOrMemory (Turn fault) = fault ≡ out_of_memory
+IsDiskOrMemory (BadRow table) = ⊥
+IsDiskOrMemory Other = ⊥
+IsDiskOrMemory (WrongReply call) = ⊥
+
+-- the fault of a table that isn't read: one of reading, and of the disk or memory where that of the table is
+pub record IsOfReading (fault : ReadFault) (e : StoreFault) : Type 0 where
+  pub reading : IsReadFault e
+  pub disk : IsOfStore fault → IsDiskOrMemory e
 
 -- the fault for a failure of the database
 abbrev pub fault_of_name : StoreError → StoreFault

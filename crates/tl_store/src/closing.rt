@@ -1,9 +1,11 @@
 // What a store has still to get after a recovery.
 
-ghost use Rattle.std.specs.Prelude.{◌≡◌, ◌≢◌, ◌↔◌, ◌+◌, ◌<◌, pos, map, drop, length, Some, All, IsTrue, IsFalse, IfOk, IfSome, OnOk, string_bytes};
+ghost use Rattle.std.specs.Prelude.{◌≡◌, ◌≢◌, ◌↔◌, ◌+◌, ◌<◌, ◌≤◌, ◌^◌, IsSome, IfErr, pos, map, drop, length, Some, All, IsTrue, IsFalse, IfOk, IfSome, OnOk, string_bytes};
 ghost use Rattle.tl_tree_locking.specs.History.{caller};
 ghost use Rattle.tl_rows.specs.Rows.{numbers_in, turn_bytes, all_turn_bytes};
 ghost use Rattle.tl_store.specs.Recovered.{IsRebuilt};
+ghost use Rattle.tl_store.specs.Stored.{AreFewRows};
+ghost use Rattle.tl_store.specs.declared.fault.StoreFault.TheVariants.{Memory};
 ghost use Rattle.tl_store.specs.Closing.{HasReply, AreLateReplies, IsSealOf, IsClosing};
 
 use crate::fault::StoreFault;
@@ -52,6 +54,7 @@ fn count_bytes(rows: &[TurnRow]) -> Option<usize>
 fn late_row(alloc: Global, epoch: u64, turns: &[u32]) -> Result<TurnRow, StoreFault>
     ensures epoch { IfOk result (λ row. row.epoch ≡ pos epoch) }
     ensures calls { IfOk result (λ row. row.calls.items ≡ turn_bytes turns.now) }
+    ensures again { epoch ≤ 2 ^ 62 → IfErr result (λ e. e ≡ Memory) }
 {
     match i64::try_from(epoch) {
         Ok(epoch) => Ok(turn_row(alloc, epoch, turns)?),
@@ -68,6 +71,8 @@ fn late_turns(
 ) -> Result<Vec<TurnRow>, StoreFault>
     ensures epoch { IfOk result (λ v. All (λ r. r.epoch ≡ pos epoch) v.items) }
     ensures turns { IfOk result (λ v. all_turn_bytes v.items ≡ turn_bytes (map caller (drop first events.now))) }
+    ensures few { IfOk result (λ v. length v.items ≤ 1) }
+    ensures again { epoch ≤ 2 ^ 62 → IfErr result (λ e. e ≡ Memory) }
 {
     let mut rows = Vec::new(alloc);
     if events.len() <= first {
@@ -103,6 +108,7 @@ fn late_reply(alloc: Global, epoch: u64, call: u32, reply: &[i64]) -> Result<Rep
     ensures epoch { IfOk result (λ row. row.epoch ≡ pos epoch) }
     ensures call { IfOk result (λ row. row.call ≡ pos call) }
     ensures reply { IfOk result (λ row. numbers_in (string_bytes row.reply) ≡ Some reply.now) }
+    ensures again { epoch ≤ 2 ^ 62 → IfErr result (λ e. e ≡ Memory) }
 {
     match i64::try_from(epoch) {
         Ok(epoch) => Ok(reply_row(alloc, epoch, i64::from(call), reply)?),
@@ -120,7 +126,9 @@ fn add_reply(
 ) -> Result<(), StoreFault>
     requires inside { call < length core.now.seen.calls }
     requires so_far { AreLateReplies call core.now.seen (pos stored.now.marks.seals) stored.now.replies.items late.old.items }
-    ensures { OnOk result (AreLateReplies (call + 1) core.now.seen (pos stored.now.marks.seals) stored.now.replies.items late.new.items) }
+    ensures replies { OnOk result (AreLateReplies (call + 1) core.now.seen (pos stored.now.marks.seals) stored.now.replies.items late.new.items) }
+    ensures few { OnOk result (length late.new.items ≤ length late.old.items + 1) }
+    ensures again { stored.now.marks.seals ≤ 2 ^ 62 → IfErr result (λ e. e ≡ Memory) }
 {
     if has_reply(stored.replies.as_slice(), call) {
         return Ok(());
@@ -133,7 +141,9 @@ fn add_reply(
 
 // The replies of the core's calls that aren't stored.
 fn late_replies(alloc: Global, stored: &Stored, core: &Core) -> Result<Vec<ReplyRow>, StoreFault>
-    ensures { IfOk result (λ v. AreLateReplies (length core.now.seen.calls) core.now.seen (pos stored.now.marks.seals) stored.now.replies.items v.items) }
+    ensures replies { IfOk result (λ v. AreLateReplies (length core.now.seen.calls) core.now.seen (pos stored.now.marks.seals) stored.now.replies.items v.items) }
+    ensures few { IfOk result (λ v. length v.items ≤ length core.now.seen.calls) }
+    ensures again { stored.now.marks.seals ≤ 2 ^ 62 → IfErr result (λ e. e ≡ Memory) }
 {
     let mut late = Vec::new(alloc);
     for call in 0..core.calls() as u32 {
@@ -144,7 +154,8 @@ fn late_replies(alloc: Global, stored: &Stored, core: &Core) -> Result<Vec<Reply
 
 // The seal with the counts of the marks, and so many turns and replies more. None if a count is too large for a row.
 fn seal_of(marks: &Marks, turns: usize, replies: usize) -> Option<SealRow>
-    ensures { IfSome result (IsSealOf marks.now turns replies) }
+    ensures seal { IfSome result (IsSealOf marks.now turns replies) }
+    ensures again { AreFewRows marks.now → turns ≤ 2 ^ 60 → replies ≤ 2 ^ 60 → IsSome result }
 {
     let turns = marks.turns.checked_add(turns as u64)?;
     let replies = marks.replies.checked_add(replies as u64)?;
@@ -157,10 +168,12 @@ fn seal_of(marks: &Marks, turns: usize, replies: usize) -> Option<SealRow>
 }
 
 /// What a store has still to get after a recovery: the turns and replies that came when the calls were let to their ends, and the seal of the epoch with
-/// the records that differ. 1003 and the table if a count is too large for a row of seals; 1090 if memory is refused.
+/// the records that differ. 1003 and the table if a count is too large for a row of seals, which none is where no table has more than 2^62 rows; 1090 if memory
+/// is refused.
 pub fn closing_news(alloc: Global, stored: &Stored, core: &Core) -> Result<News, StoreFault>
     requires { IsRebuilt stored.now core.now.seen }
-    ensures { IfOk result (λ n. IsClosing stored.now core.now.seen n) }
+    ensures closing { IfOk result (λ n. IsClosing stored.now core.now.seen n) }
+    ensures again { AreFewRows stored.now.marks → IfErr result (λ e. e ≡ Memory) }
 {
     let Some(bytes) = count_bytes(stored.turns.as_slice()) else {
         return Err(StoreFault::Memory);

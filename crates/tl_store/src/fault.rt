@@ -2,7 +2,7 @@
 
 ghost use Rattle.std.specs.Prelude.{◌≡◌};
 ghost use Rattle.tl_store.specs.declared.fault.StoreFault.TheVariants.{Memory, Turn};
-ghost use Rattle.tl_store.specs.Faults.{numbers_of, fault_of_name, IsReadFault};
+ghost use Rattle.tl_store.specs.Faults.{numbers_of, fault_of_name, IsOfReading};
 
 use arrayvec::ArrayVec;
 use sqlite_trees::error::StoreError;
@@ -77,7 +77,7 @@ impl StoreFault {
 }
 
 impl From<ReadFault> for StoreFault {
-    ghost from_gives = { λ _ e. IsReadFault e };
+    ghost from_gives = { λ fault e. IsOfReading fault e };
 
     fn from(fault: ReadFault) -> StoreFault {
         match fault {

@@ -9,7 +9,8 @@ ghost use Rattle.tl_recover.specs.Redriven.{Fits, GoesOn, AreTurnsTo};
 ghost use Rattle.sqlite_trees.specs.View.{IsClean};
 ghost use Rattle.tl_ledger.specs.Contents.{Contents, Holds, AreTables};
 ghost use Rattle.tl_store.specs.declared.fault.StoreFault.TheVariants.{Memory};
-ghost use Rattle.tl_store.specs.Faults.{IsOutOfMemory, IsReadFault};
+ghost use Rattle.tl_store.specs.Faults.{IsOutOfMemory, IsReadFault, IsDiskOrMemory};
+ghost use Rattle.tl_store.specs.Stored.{IsReadable};
 ghost use Rattle.tl_store.specs.Recovered.{IsOpened, IsReplyOf, IsRebuilt, IsRecovered, IsMadeAgain, AreOfCore, IsStoreOf};
 
 use crate::calls::requests_of;
@@ -106,12 +107,15 @@ pub fn rebuild(alloc: Global, stored: &Stored) -> Result<Recovered, StoreFault>
 }
 
 /// Makes the core again that a store holds behind its last seal, and lets its calls end. Faults as of `read_stored` and `rebuild`. If the rows there are
-/// those of a core, only the disk can fail, memory be refused, or a row have another form, and the core is that one, at the end of its calls.
+/// those of a core, only the disk can fail, memory be refused, or a row have another form, which none has of contents that can be read; and the core is that
+/// one, at the end of its calls.
 pub fn recover<S: Store>(alloc: Global, store: &mut S) -> Result<Recovered, StoreFault>
     requires { IsClean (S.Store.view store.old) → AreTables (S.Store.view store.old) }
     ensures recovered { IfOk result (λ r. IsClean (S.Store.view store.new) → (c : Contents) → Holds (S.Store.view store.old).trees c → IsRecovered c r.core.seen) }
     ensures again { IfErr result (λ e. IsClean (S.Store.view store.new) → (c : Contents) (v : CoreValue) → Holds (S.Store.view store.old).trees c → IsReached v → IsStoreOf c v
         → IsReadFault e ⊎ IsOutOfMemory e) }
+    ensures readable { IfErr result (λ e. IsClean (S.Store.view store.new) → (c : Contents) (v : CoreValue) → Holds (S.Store.view store.old).trees c → IsReadable c → IsReached v → IsStoreOf c v
+        → IsDiskOrMemory e) }
     ensures same { IfOk result (λ r. IsClean (S.Store.view store.new) → (c : Contents) (v : CoreValue) → Holds (S.Store.view store.old).trees c → IsReached v → IsStoreOf c v
         → IsMadeAgain v r.core.seen) }
 {

@@ -1,10 +1,12 @@
 // The rows of a store that make a core again.
 
-ghost use Rattle.std.specs.Prelude.{◌≡◌, ◌≤◌, IsTrue, IfOk, IfErr, IfSome, OnOk};
+ghost use Rattle.std.specs.Prelude.{◌≡◌, ◌≤◌, ◌^◌, length, IsTrue, IsSome, IfOk, IfErr, IfSome, OnOk};
 ghost use Rattle.sqlite_trees.specs.View.{IsClean, IsQuiet, KeepsSchema};
 ghost use Rattle.tl_ledger.specs.Contents.{OnlyReads, Contents, Holds, AreTables};
-ghost use Rattle.tl_store.specs.Faults.{IsReadFault};
-ghost use Rattle.tl_store.specs.Stored.{AreStored, AreBehind, IsLastSeal, counts};
+ghost use Rattle.tl_ledger.specs.News.{call_columns, turn_columns, reply_columns};
+ghost use Rattle.tl_store.specs.Faults.{IsReadFault, IsDiskOrMemory};
+ghost use Rattle.tl_store.specs.declared.stored.Sealed.{Sealed as Counts};
+ghost use Rattle.tl_store.specs.Stored.{AreStored, AreBehind, AreEntries, IsReadable, IsLastSeal, counts};
 
 use crate::fault::StoreFault;
 use sqlite_trees::store::{Shape, Store};
@@ -41,7 +43,8 @@ pub struct Stored {
 
 // The counts of a seal.
 fn counts_of(seal: &SealRow) -> Option<Sealed>
-    ensures { IfSome result (λ s. counts seal.now s) }
+    ensures counts { IfSome result (λ s. counts seal.now s) }
+    ensures again { (s : Counts) → counts seal.now s → IsSome result }
 {
     Some(Sealed {
         calls: u64::try_from(seal.calls).ok()?,
@@ -53,6 +56,7 @@ fn counts_of(seal: &SealRow) -> Option<Sealed>
 // The counts at the last seal.
 fn last_seal<S: Store>(alloc: Global, store: &mut S) -> Result<Sealed, StoreFault>
     requires { IsClean (S.Store.view store.old) → (S.Store.view store.old).shape SEAL ≡ Shape.Table }
+    ensures again { IfErr result (λ e. IsClean (S.Store.view store.new) → (c : Contents) (s : Counts) → Holds (S.Store.view store.old).trees c → IsLastSeal c s → IsDiskOrMemory e) }
     ensures sealed { IfOk result (λ s. IsClean (S.Store.view store.new) → (c : Contents) → Holds (S.Store.view store.old).trees c → IsLastSeal c s) }
     ensures reads { OnOk result (IsClean (S.Store.view store.new) → OnlyReads (S.Store.view store.old) (S.Store.view store.new)) }
     ensures schema { KeepsSchema (S.Store.view store.old) (S.Store.view store.new) }
@@ -78,6 +82,7 @@ fn are_counted(sealed: &Sealed, marks: &Marks) -> bool
     ensures calls { IsTrue result → sealed.now.calls ≤ marks.now.calls }
     ensures turns { IsTrue result → sealed.now.turns ≤ marks.now.turns }
     ensures replies { IsTrue result → sealed.now.replies ≤ marks.now.replies }
+    ensures again { sealed.now.calls ≤ marks.now.calls → sealed.now.turns ≤ marks.now.turns → sealed.now.replies ≤ marks.now.replies → IsTrue result }
 {
     sealed.calls <= marks.calls && sealed.turns <= marks.turns && sealed.replies <= marks.replies
 }
@@ -97,6 +102,10 @@ fn read_behind<S: Store>(
     sealed: &Sealed,
 ) -> Result<Behind, StoreFault>
     requires { IsClean (S.Store.view store.old) → AreTables (S.Store.view store.old) }
+    ensures again { IfErr result (λ e. IsClean (S.Store.view store.new) → (c : Contents) → Holds (S.Store.view store.old).trees c
+        → length (c CALL) ≤ 2 ^ 62 → length (c TURN) ≤ 2 ^ 62 → length (c REPLY) ≤ 2 ^ 62
+        → AreEntries call_columns (c CALL) sealed.now.calls → AreEntries turn_columns (c TURN) sealed.now.turns → AreEntries reply_columns (c REPLY) sealed.now.replies
+        → IsDiskOrMemory e) }
     ensures behind { IfOk result (λ b. IsClean (S.Store.view store.new) → (c : Contents) → Holds (S.Store.view store.old).trees c → AreBehind c sealed.now b) }
     ensures reads { OnOk result (IsClean (S.Store.view store.new) → OnlyReads (S.Store.view store.old) (S.Store.view store.new)) }
     ensures schema { KeepsSchema (S.Store.view store.old) (S.Store.view store.new) }
@@ -111,9 +120,11 @@ fn read_behind<S: Store>(
 }
 
 /// Reads the rows that make a core again: all nodes, records and procedures, and the calls, turns and replies behind the last seal. Those before
-/// are not read. 1003 and the table if a row has another form; 1011 to 1013 of the disk; 1090 if memory is refused.
+/// are not read. 1003 and the table if a row has another form; 1011 to 1013 of the disk; 1090 if memory is refused. Of contents that can be read there is no
+/// 1003.
 pub fn read_stored<S: Store>(alloc: Global, store: &mut S) -> Result<Stored, StoreFault>
     requires { IsClean (S.Store.view store.old) → AreTables (S.Store.view store.old) }
+    ensures again { IfErr result (λ e. IsClean (S.Store.view store.new) → (c : Contents) → Holds (S.Store.view store.old).trees c → IsReadable c → IsDiskOrMemory e) }
     ensures stored { IfOk result (λ s. IsClean (S.Store.view store.new) → (c : Contents) → Holds (S.Store.view store.old).trees c → AreStored c s) }
     ensures reads { OnOk result (IsClean (S.Store.view store.new) → OnlyReads (S.Store.view store.old) (S.Store.view store.new)) }
     ensures schema { KeepsSchema (S.Store.view store.old) (S.Store.view store.new) }

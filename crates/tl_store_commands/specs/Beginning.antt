@@ -1,5 +1,7 @@
 -- The state with which a server with a store begins.
-use Rattle.std.specs.Prelude.{◌≡◌, ◌⊎◌, pos, [], All, map}
+use Rattle.std.specs.Prelude.{◌≡◌, ◌<◌, ◌≤◌, ◌^◌, ◌⊎◌, ℕ, pos, [], All, length, map}
+use Rattle.tl_width.specs.Fields.{field_count}
+use Rattle.tl_ledger.specs.declared.schema.TheConstants.{NAME}
 use Rattle.sqlite_trees.specs.Tree.{Trees}
 use Rattle.tl_tree.specs.Trees.{TreeValue}
 use Rattle.tl_core.specs.Cores.{CoreValue, CoreState, opened, opened_after}
@@ -58,3 +60,8 @@ pub record Resumes (v : CoreValue) (core : CoreState) (committed : Trees) (marks
   pub holds : Holds committed now
   pub marked : IsMarked now marks
   pub rows : IsLedgerOf now core.seen
+
+-- no table has more than 2^62 rows, and each record of the core has all fields
+pub record IsOfSize (c : Contents) (v : CoreValue) : Type 0 where
+  pub few : (t : ℕ) → t < NAME → length (c t) ≤ 2 ^ 62
+  pub wide : All (λ fields. length fields ≡ field_count) v.opening

@@ -1,14 +1,16 @@
 // How a server begins on a store that is there.
 
-ghost use Rattle.std.specs.Prelude.{◌≡◌, ◌≤◌, false, IfOk};
-ghost use Rattle.sqlite_trees.specs.View.{IsClean, doubt};
+ghost use Rattle.std.specs.Prelude.{◌≡◌, ◌≤◌, false, IfOk, IfErr};
+ghost use Rattle.sqlite_trees.specs.View.{IsClean, IsQuiet, doubt};
 ghost use Rattle.tl_core.specs.Cores.{CoreValue};
 ghost use Rattle.tl_core.specs.Reached.{IsReached};
 ghost use Rattle.tl_ledger.specs.Contents.{Contents, Holds, IsAtRest};
 ghost use Rattle.tl_ledger.specs.News.{IsMarked};
+ghost use Rattle.tl_store.specs.Faults.{IsDiskOrMemory};
 ghost use Rattle.tl_store.specs.Recovered.{IsRebuilt};
+ghost use Rattle.tl_store.specs.Stored.{AreFewRows};
 ghost use Rattle.tl_store_laws.specs.Growing.{IsLedgerOf};
-ghost use Rattle.tl_store_commands.specs.Beginning.{IsClosed, Resumes, TakesUp};
+ghost use Rattle.tl_store_commands.specs.Beginning.{IsClosed, IsOfSize, Resumes, TakesUp};
 
 use crate::beginning::Beginning;
 use sqlite_trees::store::Store;
@@ -38,6 +40,7 @@ fn close<S: Store + Drop>(
     ensures stored { IfOk result (λ now. IsClean (S.Store.view now.store) → (c : Contents) → IsMarked c ledger.marks → Holds (S.Store.view ledger.store).committed c
         → (after : Contents) × IsClosed stored.now core.now.seen c after × Holds (S.Store.view now.store).committed after × IsMarked after now.marks) }
     ensures clean { IfOk result (λ now. doubt (S.Store.view ledger.store).is_clean ≤ doubt (S.Store.view now.store).is_clean) }
+    ensures again { AreFewRows stored.now.marks → IfErr result IsDiskOrMemory }
 {
     if stored.calls.is_empty() {
         return Ok(ledger);
@@ -61,7 +64,8 @@ fn count_retaken(stored: &Stored) -> Retaken {
 
 /// Takes up what a store holds: the calls behind its last seal are taken again and end, and what that adds is stored, with the seal of
 /// their epoch. The core is the one that takes over from theirs. If the rows were those of a core, that one is taken up, and the store has the rows of the
-/// core that takes over, so the next start takes it up in turn. Faults as of `read_stored` and `rebuild`; 1011 to 1013 if the disk fails.
+/// core that takes over, so the next start takes it up in turn. Faults as of `read_stored` and `rebuild`; 1011 to 1013 if the disk fails. Of rows of a core only
+/// the disk can fail, or memory be refused: `last` is the store as it was left, of which no page was read as other than it is.
 pub fn reopen_store<S: Store + Drop>(
     alloc: Global,
     store: S,
@@ -71,6 +75,9 @@ pub fn reopen_store<S: Store + Drop>(
         → TakesUp c r.0.core (S.Store.view r.0.ledger.store).committed r.0.ledger.marks) }
     ensures resumes { IfOk result (λ r. IsClean (S.Store.view r.0.ledger.store) → (c : Contents) (v : CoreValue) → Holds (S.Store.view store).committed c → IsReached v → IsLedgerOf c v
         → Resumes v r.0.core (S.Store.view r.0.ledger.store).committed r.0.ledger.marks) }
+    ensures clean { IfOk result (λ r. doubt (S.Store.view store).is_clean ≤ doubt (S.Store.view r.0.ledger.store).is_clean) }
+    ensures again { IfErr result (λ e. (last : S) × IsQuiet S.Store.view S.Store.faults S.Store.recovers S.Store.is_shielded store last
+        × (IsClean (S.Store.view last) → (c : Contents) (v : CoreValue) → Holds (S.Store.view store).committed c → IsReached v → IsLedgerOf c v → IsOfSize c v → IsDiskOrMemory e)) }
 {
     let mut store = store;
     let stored = read_stored(alloc, &mut store)?;

@@ -13,3 +13,4 @@ pub mod Again
 pub mod Closed
 pub mod Founded
 pub mod Idle
+pub mod Readable

@@ -7,12 +7,12 @@ ghost use Rattle.tl_ledger.specs.Contents.{Contents, no_contents};
 ghost use Rattle.tl_ledger.specs.News.{after_news, after_founding};
 ghost use Rattle.tl_store.specs.Recovered.{IsStoreOf, IsMadeAgain};
 ghost use Rattle.tl_store.specs.declared.stored.Stored.{Stored as Rows};
-ghost use Rattle.tl_store.specs.Stored.{AreStored};
+ghost use Rattle.tl_store.specs.Stored.{AreStored, IsReadable};
 ghost use Rattle.tl_store.specs.Closing.{IsClosing};
 ghost use Rattle.tl_rows.specs.Batches.{Batch, batch_of, joined, after_batch};
 ghost use Rattle.tl_recover.specs.Later.{Later};
 ghost use Rattle.tl_store_laws.specs.Growing.{IsNewsOf, IsLastNewsOf, IsReplacingNewsOf, IsWideningNewsOf, widened, IsLedgerOf};
-ghost use Rattle.std.specs.Prelude.{◌≡◌, ◌<◌, ◌++◌, ℕ, ℤ, pos, List, [], All, length, map};
+ghost use Rattle.std.specs.Prelude.{◌≡◌, ◌<◌, ◌≤◌, ◌^◌, ◌++◌, ℕ, ℤ, pos, List, [], All, length, map};
 ghost use Rattle.tl_tree.specs.Records.{Records};
 ghost use Rattle.tl_tree.specs.Trees.{TreeValue};
 ghost use Rattle.tl_ledger.specs.declared.founding.Founding.{Founding as First};
@@ -29,7 +29,8 @@ ghost use Rattle.std.specs.Prelude.{Result as Answer};
 ghost use Rattle.tl_ledger.specs.declared.rows.ChangedRecord.{ChangedRecord as Change};
 ghost use Rattle.tl_ledger.specs.News.{fields_columns, new_columns, with_changes};
 ghost use Rattle.tl_rows.specs.Changes.{Leads};
-ghost use Rattle.tl_ledger.specs.declared.schema.TheConstants.{SEAL as SEALS, RECORD as RECORDS};
+ghost use Rattle.tl_ledger.specs.declared.schema.TheConstants.{SEAL as SEALS, RECORD as RECORDS, NAME as NAMES};
+ghost use Rattle.tl_width.specs.Fields.{field_count};
 
 /// Where a store's rows are those of a core, and rows are added that say what came of it up to a later core, the rows are those of the later core.
 pub fn rows_grow()
@@ -98,6 +99,11 @@ pub fn rows_are_closed()
 /// Where a core without calls was made again, the store has the rows of the core that takes over.
 pub fn rows_are_kept()
     ensures { (c : Contents) (v w : CoreValue) → IsLedgerOf c v → IsMadeAgain v w → IsReached v → IsReached w → w.calls ≡ [] → IsLedgerOf c (opened_after w).seen }
+{}
+
+/// Contents that have the rows of a core can be read, where its records have all fields and no table has more than 2^62 rows.
+pub fn rows_are_readable()
+    ensures { (c : Contents) (v : CoreValue) → IsLedgerOf c v → IsReached v → All (λ fields. length fields ≡ field_count) v.opening → ((t : ℕ) → t < NAMES → length (c t) ≤ 2 ^ 62) → IsReadable c }
 {}
 
 /// The first contents of a store are the rows of a core of that tree, without procedures and calls.

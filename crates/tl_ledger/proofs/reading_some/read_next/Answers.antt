@@ -1,8 +1,10 @@
-use Rattle.std.proofs.Common.{rules, ◌≡◌, ◌+◌, ◌∷◌, [], map, length, take, pos, true, refl, ap, ◌∙◌, arith}
+use Rattle.std.proofs.Common.{rules, ◌≡◌, ◌≤◌, subst, ◌+◌, ◌∷◌, [], map, length, take, pos, true, refl, ap, ◌∙◌, arith}
 use Rattle.std.proofs.lemmas.List.{map-append, length-map, length-append}
+use Rattle.std.proofs.lemmas.Result.{err_from_is_err_and}
 use Rattle.sqlite_value.specs.declared.value.Value.TheVariants.{Int}
 use Rattle.sqlite_trees.specs.View.{IsClean}
-use Rattle.tl_ledger.proofs.ReadLemmas.{reads_none, reads_more}
+use Rattle.tl_ledger.specs.Entries.{BeginsWithEntry}
+use Rattle.tl_ledger.proofs.ReadLemmas.{reads_none, reads_more, reads_all, next_entry, same_columns}
 use Rattle.tl_ledger.proofs.SomeLemmas.{reads_first}
 use Rattle.tl_ledger.proofs.OnlyReading.{advanced_reads, then_reads}
 use Rattle.tl_ledger.proofs.reading_some.read_next.Goals as goal
@@ -42,3 +44,26 @@ returns-clause-rows g c = λ clean columns is.
     let items = c.loop-number.items.items in
     let so_far = c.loop-number.invariant.2 clean _ is in
     reads_first _ _ c.args.first columns (map g.T.Entry.columns items) so_far ∙ ap (λ n. take n columns) (length-map items g.T.Entry.columns)
+
+pub returns-in_err-item-clause-again : goal.returns-in_err-item-clause-again
+returns-in_err-item-clause-again g c =
+    let p = err_from_is_err_and c.from_residual.result c.from_residual.ensures.1 in
+    rw (p.1, p.2) (λ clean xs whole many is.
+    let before : IsClean (g.S.Store.view c.loop-number.store) = omega (arith, clean, c.next_item.ensures.quiet.clean) in
+    let so_far = c.loop-number.invariant.2 before _ is in
+    let done = map g.T.Entry.columns c.loop-number.items.items in
+    let number : c.args.first + length done ≡ c.loop-number.number = omega (arith, c.loop-number.invariant.1, length-map c.loop-number.items.items g.T.Entry.columns) in
+    c.in_err-item.ensures.again clean so_far.left so_far.cursor
+    (subst (λ n. BeginsWithEntry g.T.ReadEntry.is_whole g.T.Entry.columns n so_far.left) number (next_entry g.T.ReadEntry.is_whole g.T.Entry.columns c.args.first xs done so_far.left whole so_far.rows)))
+
+pub returns-in_default-clause-again : goal.returns-in_default-clause-again
+returns-in_default-clause-again g c = λ clean xs whole many is.
+    let before : IsClean (g.S.Store.view c.loop-number.store) = omega (arith, clean, c.next_item.ensures.quiet.clean) in
+    let columns = map g.T.Entry.columns xs in
+    let done = map g.T.Entry.columns c.loop-number.items.items in
+    let so_far = c.loop-number.invariant.2 before _ is in
+    let moves = (rw c.in_default.is at c.in_ok-item.ensures.none) clean in
+    let same : columns ≡ done = same_columns c.args.first columns done (reads_all _ _ _ _ _ done [] so_far moves).0 in
+    let all : length columns ≡ length xs = length-map xs g.T.Entry.columns in
+    let read : length done ≡ length c.loop-number.items.items = length-map c.loop-number.items.items g.T.Entry.columns in
+    absurd (omega (arith, ap length same, all, read, many, c.loop-number.invariant.1, c.loop-number-test.true))

@@ -1,11 +1,12 @@
-use Rattle.std.proofs.Common.{rules, ◌≡◌, ◌∙◌, ◌∷◌, [], ap, pos, drop, Some, arith}
-use Rattle.std.proofs.lemmas.Result.{IfOk-weaker, on_ok_weaker}
+use Rattle.std.proofs.Common.{rules, ◌≡◌, ◌≤◌, ◌+◌, length, sym, ◌∙◌, ◌∷◌, [], ap, pos, drop, Some, arith}
+use Rattle.std.proofs.lemmas.List.{length-map}
+use Rattle.std.proofs.lemmas.Result.{IfOk-weaker, IfErr-weaker, on_ok_weaker}
 use Rattle.sqlite_value.specs.declared.value.Value.TheVariants.{Int}
 use Rattle.sqlite_value.specs.Keys.{plain}
 use Rattle.sqlite_trees.specs.Tree.{order_of, from_key}
 use Rattle.sqlite_trees.specs.View.{IsClean}
 use Rattle.tl_ledger.specs.Rows.{rows_from}
-use Rattle.tl_ledger.proofs.ReadLemmas.{sought_from}
+use Rattle.tl_ledger.proofs.ReadLemmas.{sought_from, behind_first}
 use Rattle.tl_ledger.proofs.OnlyReading.{moved_reads, then_reads}
 use Rattle.tl_ledger.proofs.reading_some.read_some.Goals as goal
 
@@ -34,3 +35,23 @@ returns-clause-reads g c =
     let before : IsClean (g.S.Store.view c.seek.new.self) = omega (arith, clean, c.read_next.ensures.quiet.clean) in
     then_reads _ _ _ (moved_reads _ (g.S.Store.view c.seek.new.self) _ (c.in_ok-seek.ensures.ok before)) (reads clean))
     c.read_next.ensures.reads
+
+pub returns-clause-again : goal.returns-clause-again
+returns-clause-again g c =
+    IfErr-weaker c.read_next.result _ _
+    (λ e some clean columns is enough bound xs whole entries.
+    let before : IsClean (g.S.Store.view c.seek.new.self) = omega (arith, clean, c.read_next.ensures.quiet.clean) in
+    let start : IsClean (g.S.Store.view c.args.store.now) = omega (arith, before, c.seek.ensures.quiet.clean) in
+    let first = c.args.first in
+    let few : first ≤ length columns = omega (arith, enough, c.requires.order) in
+    let rows = (g.S.Store.view c.args.store.now).trees c.args.table in
+    let order = order_of ((g.S.Store.view c.args.store.now).shape c.args.table) in
+    let plainly : order ≡ plain = ap order_of (c.requires.table start) in
+    let key = c.push.new.self in
+    let key_is : key ≡ Int (pos first) ∷ [] = search rules in
+    let given : (g.S.Store.view c.seek.new.self).cursors 0 ≡ Some (rows_from first (drop first columns)) =
+    ap (λ v. v.cursors 0) (c.in_ok-seek.ensures.ok before)
+    ∙ ap Some (ap (λ o. from_key o key rows) plainly ∙ ap (λ k. from_key plain k rows) key_is ∙ ap (from_key plain (Int (pos first) ∷ [])) is ∙ sought_from first columns few) in
+    let long : first + length xs ≡ length columns = behind_first first columns few (sym (length-map xs g.T.Entry.columns) ∙ ap length entries) in
+    some clean xs whole (omega (arith, long, enough)) (given ∙ ap (λ l. Some (rows_from first l)) (sym entries)))
+    c.read_next.ensures.again

@@ -8,14 +8,14 @@ use Rattle.tl_store.proofs.ReplyLemmas.{replied}
 use Rattle.tl_store.proofs.ClosingLemmas.{late_stays, late_push, has_none}
 use Rattle.tl_store.proofs.closing.add_reply.Goals as goal
 
-pub returns-then-has_reply : goal.returns-then-has_reply
-returns-then-has_reply c =
+pub returns-then-has_reply-clause-replies : goal.returns-then-has_reply-clause-replies
+returns-then-has_reply-clause-replies c =
     let is : IsTrue c.has_reply.result = search rules in
     let found = subst (λ rows. HasReply rows c.args.call) c.as_slice.ensures.value (c.has_reply.ensures.found is) in
     late_stays c.args.call c.args.core.now.seen (pos c.args.stored.now.marks.seals) c.args.stored.now.replies.items c.args.late.now.items c.requires.so_far (λ done. found)
 
-pub returns-in_ok-push : goal.returns-in_ok-push
-returns-in_ok-push c =
+pub returns-in_ok-push-clause-replies : goal.returns-in_ok-push-clause-replies
+returns-in_ok-push-clause-replies c =
     let v = c.args.core.now.seen in
     let epoch = pos c.args.stored.now.marks.seals in
     let stored = c.args.stored.now.replies.items in

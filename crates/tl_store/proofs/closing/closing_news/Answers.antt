@@ -8,8 +8,8 @@ use Rattle.tl_store.specs.Closing.{IsSealOf}
 use Rattle.tl_store.proofs.ClosingLemmas.{behind}
 use Rattle.tl_store.proofs.closing.closing_news.Goals as goal
 
-pub returns : goal.returns
-returns c =
+pub returns-clause-closing : goal.returns-clause-closing
+returns-clause-closing c =
     let s = c.args.stored.now in
     let v = c.args.core.now.seen in
     let turns = c.in_ok-turns.turns.items in
@@ -29,9 +29,9 @@ returns c =
       calls = c.new-3.ensures.items;
       epoch = c.in_ok-turns.ensures.epoch;
       turns = behind v.past c.requires.turns c.requires.later (all_turn_bytes s.turns.items) (all_turn_bytes turns) first c.requires.turns_are c.requires.past (map-reverse caller v.past) (ap (λ n. n / 2) bytes) late;
-      replies = c.in_ok-replies.ensures;
+      replies = c.in_ok-replies.ensures.replies;
       records = subst (λ b. Leads b (records_now v.past v.opening) changes) before (subst (λ n. Leads c.records.result.now n changes) now c.in_ok-records.ensures);
       seal = seal;
       seals = c.in_ok-push.ensures.items ∙ ap (λ l. l ++ seal ∷ []) c.new-seals.ensures.items;
-      counts = subst (λ n. IsSealOf s.marks (length turns) n seal) (c.len-2.ensures ∙ many_replies) (subst (λ n. IsSealOf s.marks n c.len-2.result seal) (c.len.ensures ∙ many_turns) c.in-Some-seal_of.ensures);
+      counts = subst (λ n. IsSealOf s.marks (length turns) n seal) (c.len-2.ensures ∙ many_replies) (subst (λ n. IsSealOf s.marks n c.len-2.result seal) (c.len.ensures ∙ many_turns) c.in-Some-seal_of.ensures.seal);
     }

@@ -1,5 +1,5 @@
 use Rattle.std.proofs.Common.{◌⊎◌, Result, Ok, Err, IfOk, IfErr, inr}
-use Rattle.std.proofs.lemmas.Result.{IfOk-weaker}
+use Rattle.std.proofs.lemmas.Result.{IfOk-weaker, err_from_is_err_and}
 use Rattle.sqlite_trees.specs.Tree.{Trees}
 use Rattle.sqlite_trees.specs.View.{IsClean}
 use Rattle.tl_core.specs.Cores.{CoreValue}
@@ -10,6 +10,7 @@ use Rattle.tl_store.specs.declared.stored.Stored.{Stored}
 use Rattle.tl_store.specs.Faults.{IsReadFault, IsOutOfMemory}
 use Rattle.tl_store.specs.Stored.{AreStored}
 use Rattle.tl_store.specs.Recovered.{AreOfCore, IsStoreOf, IsMadeAgain}
+use Rattle.tl_store.proofs.DiskLemmas.{rebuilt_again}
 use Rattle.tl_store.proofs.recovering.recover.Goals as goal
 
 pub returns-clause-recovered : goal.returns-clause-recovered
@@ -39,3 +40,12 @@ same_again (Err e) P rows same clean db stored = tt
 pub returns-clause-same : goal.returns-clause-same
 returns-clause-same g c =
     same_again c.rebuild.result (λ v r. IsMadeAgain v r.core.seen) c.in_ok-stored.stored c.rebuild.ensures.same (IsClean (g.S.Store.view c.read_stored.new.store)) (g.S.Store.view c.args.store.now).trees c.in_ok-stored.ensures.stored
+
+pub returns-in_err-stored-clause-readable : goal.returns-in_err-stored-clause-readable
+returns-in_err-stored-clause-readable g c =
+    let p = err_from_is_err_and c.from_residual.result c.from_residual.ensures.1 in
+    rw (p.1, p.2) (λ clean contents v holds readable reached of. c.in_err-stored.ensures.again clean contents holds readable)
+
+pub returns-clause-readable : goal.returns-clause-readable
+returns-clause-readable g c =
+    rebuilt_again c.rebuild.result c.in_ok-stored.stored c.rebuild.ensures.again (IsClean (g.S.Store.view c.read_stored.new.store)) (g.S.Store.view c.args.store.now).trees c.in_ok-stored.ensures.stored

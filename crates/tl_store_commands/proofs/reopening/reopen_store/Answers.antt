@@ -1,4 +1,5 @@
 use Rattle.std.proofs.Common.{ap, subst, sym, arith}
+use Rattle.std.proofs.lemmas.Result.{err_from_is_err_and}
 use Rattle.sqlite_trees.specs.Tree.{Trees}
 use Rattle.sqlite_trees.specs.View.{IsClean}
 use Rattle.tl_ledger.specs.Contents.{Holds, IsAtRest, OnlyReads}
@@ -6,7 +7,9 @@ use Rattle.tl_ledger.specs.News.{IsMarked}
 use Rattle.tl_store.specs.Stored.{AreStored}
 use Rattle.tl_store.specs.Recovered.{IsMadeAgain}
 use Rattle.tl_store_laws.proofs.Columns.{ledger_is_store}
-use Rattle.tl_store_commands.proofs.ReopeningLemmas.{resumed}
+use Rattle.tl_store_laws.proofs.Readable.{readable}
+use Rattle.tl_store.proofs.DiskLemmas.{of_memory}
+use Rattle.tl_store_commands.proofs.ReopeningLemmas.{resumed, few_rows}
 use Rattle.tl_store_commands.proofs.reopening.reopen_store.Goals as goal
 
 pub returns-clause-taken_up : goal.returns-clause-taken_up
@@ -44,3 +47,50 @@ returns-clause-resumes g c = λ clean contents v held reached old.
     let rows = ledger_is_store contents v old taken.rows taken.stored in
     let made : IsMadeAgain v taken.last = c.in_ok-core.ensures.same v reached rows in
     resumed contents v _ _ _ old reached taken made c.lemma_is_reached.ensures
+
+pub returns-in_err-stored-clause-again : goal.returns-in_err-stored-clause-again
+returns-in_err-stored-clause-again g c =
+    let p = err_from_is_err_and c.from_residual.result c.from_residual.ensures.1 in
+    rw (p.1, p.2) (
+      c.read_stored.new.store,
+      c.read_stored.ensures.quiet,
+      λ clean contents v held reached old size.
+          let before = g.S.Store.view c.args.store in
+          let first_clean : IsClean before = omega (arith, clean, c.read_stored.ensures.quiet.clean) in
+          let rest : IsAtRest before = c.requires first_clean in
+          let shown : Holds before.trees contents = subst (λ (db : Trees). Holds db contents) (sym rest.settled) held in
+          c.in_err-stored.ensures.again clean contents shown (readable contents v old reached size.wide size.few),
+    )
+
+pub returns-in_err-core-clause-again : goal.returns-in_err-core-clause-again
+returns-in_err-core-clause-again g c =
+    let p = err_from_is_err_and c.from_residual-in_err-core.result c.from_residual-in_err-core.ensures.1 in
+    rw (p.1, p.2) (
+      c.read_stored.new.store,
+      c.read_stored.ensures.quiet,
+      λ clean contents v held reached old size.
+          let before = g.S.Store.view c.args.store in
+          let first_clean : IsClean before = omega (arith, clean, c.read_stored.ensures.quiet.clean) in
+          let rest : IsAtRest before = c.requires first_clean in
+          let shown : Holds before.trees contents = subst (λ (db : Trees). Holds db contents) (sym rest.settled) held in
+          let stored : AreStored contents c.in_ok-stored.stored = c.in_ok-stored.ensures.stored clean contents shown in
+          of_memory _ (c.in_err-core.ensures.again v reached (ledger_is_store contents v old c.in_ok-stored.stored stored)),
+    )
+
+pub returns-in_default-clause-again : goal.returns-in_default-clause-again
+returns-in_default-clause-again g c = (c.read_stored.new.store, c.read_stored.ensures.quiet, λ clean contents v held reached old size. tt)
+
+pub returns-in_err-ledger-clause-again : goal.returns-in_err-ledger-clause-again
+returns-in_err-ledger-clause-again g c =
+    let p = err_from_is_err_and c.from_residual-in_err-ledger.result c.from_residual-in_err-ledger.ensures.1 in
+    rw (p.1, p.2) (
+      c.read_stored.new.store,
+      c.read_stored.ensures.quiet,
+      λ clean contents v held reached old size.
+          let before = g.S.Store.view c.args.store in
+          let first_clean : IsClean before = omega (arith, clean, c.read_stored.ensures.quiet.clean) in
+          let rest : IsAtRest before = c.requires first_clean in
+          let shown : Holds before.trees contents = subst (λ (db : Trees). Holds db contents) (sym rest.settled) held in
+          let stored : AreStored contents c.in_ok-stored.stored = c.in_ok-stored.ensures.stored clean contents shown in
+          c.in_err-ledger.ensures.again (few_rows contents _ stored.marked size.few),
+    )
