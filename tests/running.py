@@ -255,11 +255,11 @@ class Tests(Counts):
         super().__init__()
         self.program, self.folder = program, folder
 
-    def run(self, *words, out=None, err=None, env=None, pass_fds=(), memory=None):
-        """Runs the program with these words, in so many bytes of addresses. A stream that has a path goes there, and else into the answer."""
+    def run(self, *words, out=None, err=None, env=None, pass_fds=(), memory=None, user=None):
+        """Runs the program with these words, in so many bytes of addresses, as another user if one is named. A stream that has a path goes there, and else into the answer."""
         streams = [open(path, "wb") if path else subprocess.PIPE for path in (out, err)]
         done = subprocess.run([self.program, *words], cwd=self.folder, stdin=subprocess.DEVNULL, stdout=streams[0], stderr=streams[1],
-                              env=env, pass_fds=pass_fds, preexec_fn=before_program(memory), timeout=PATIENCE, check=False)
+                              env=env, pass_fds=pass_fds, preexec_fn=before_program(memory), timeout=PATIENCE, check=False, user=user)
         for stream in streams:
             if stream != subprocess.PIPE:
                 stream.close()

@@ -203,15 +203,40 @@ def test_unwritten(tests):
 
 
 def test_one_file(tests):
-    """With --trail there is one generation, and one file."""
-    with serving(tests, "--seal", "itself", "--generation", "1", "--trail", "all.json", connections=1) as server:
-        peer = Peer(server.port)
-        answers = [peer.ask(line) for line in (ADD, CALL, SEAL, CALL, SEAL, CALL)]
-        peer.close()
-        run = server.end()
-    tests.check("one file: the calls", answers[1::2] == [lines(answer(0, epoch, 8 + 3 * epoch)) for epoch in range(3)], answers)
-    tests.check("one file: the end", (run.status, run.out) == (0, lines({"generations": 1}, tree(14))), run)
-    tests.answers("one file: the audit", ["audit", "all.json"], 0, lines({"orders": [[0], [0], [0]]}), "")
+    """--trail is for servers whose clients seal: one that seals itself has no end, and a file for each generation."""
+    words = ["serve", "--tree", "examples/one-node.json", "--port", str(free_port()), "--trail", "all.json"]
+    for more in (["--control", str(free_port())], ["--control", str(free_port()), "--seal", "itself"], ["--connections", "1", "--seal", "itself"], ["--store", "one.db"]):
+        run = tests.run(*words, *more)
+        tests.check(f"serve --trail {' '.join(more)}", (run.status, run.out) == (2, "") and "--trails FOLDER" in run.err and "--store FILE" in run.err, run)
+    tests.check("nothing is made", not tests.path("all.json").exists() and not tests.path("one.db").exists(), "it is there")
+    for more in ([], ["--seal", "by-hand"]):
+        with serving(tests, *more, "--trail", "all.json", connections=1) as server:
+            peer = Peer(server.port)
+            answers = [peer.ask(line) for line in (ADD, CALL, SEAL, CALL, SEAL, CALL)]
+            peer.close()
+            run = server.end()
+        tests.check("one file: the calls", answers[1::2] == [lines({"call": 0, "reply": [8]}), *(lines(answer(0, epoch, 8 + 3 * epoch)) for epoch in (1, 2))], answers)
+        tests.check("one file: the end", (run.status, run.out) == (0, lines({"orders": [[0], [0], [0]]}, tree(14))), run)
+        tests.answers("one file: the audit", ["audit", "all.json"], 0, lines({"orders": [[0], [0], [0]]}), "")
+
+
+def test_one_folder(tests):
+    """Of two servers with one folder each file is that of the server that made it first: none is replaced, and the other server says so."""
+    words = ["--trails", folder(tests, "both")]
+    with serving(tests, *words, connections=None) as one, serving(tests, *words, connections=None) as two:
+        for server, calls in ((one, 1), (two, 2)):
+            peer = Peer(server.port)
+            for line in [ADD, *[CALL] * calls]:
+                peer.ask(line)
+            peer.close()
+        one.stop()
+        first, kept = one.end(), tests.bytes("both/0.json")
+        two.stop()
+        second = two.end()
+    tests.check("the first server", (first.status, first.out) == (0, lines({"generations": 1}, tree(8))), first)
+    tests.check("the second server", (second.status, second.out) == (3, lines({"generations": 1}, tree(11), {"error": [32]})) and "both/0.json can't be written: " in second.err, second)
+    tests.check("the file", tests.bytes("both/0.json") == kept and [file.name for file in tests.path("both").iterdir()] == ["0.json"], kept)
+    tests.answers("its audit", ["audit", "both"], 0, lines({"orders": [[0]]}), "")
 
 
 def told(epoch, generation, calls, connections, nodes, procedures):
@@ -411,13 +436,12 @@ def test_hand_over_without_memory(tests):
 
 def test_unknown_growth(tests):
     """A server on whose tree no nodes can be appended doesn't know the request."""
-    for name, words, connections in (("by hand", [], 1), ("in one file", ["--seal", "itself", "--trail", "whole.json"], 1)):
-        with serving(tests, *words, connections=connections) as server:
-            peer = Peer(server.port)
-            told = [peer.ask(grow(0)), peer.ask(json.dumps({"op": "grown", "parents": [0]}))]
-            peer.close()
-            run = server.end()
-        tests.check(f"growth of a server {name}", told == [lines({"error": [901]})] * 2 and run.status == 0, (told, run))
+    with serving(tests, connections=1) as server:
+        peer = Peer(server.port)
+        told = [peer.ask(grow(0)), peer.ask(json.dumps({"op": "grown", "parents": [0]}))]
+        peer.close()
+        run = server.end()
+    tests.check("growth of a server whose clients seal", told == [lines({"error": [901]})] * 2 and run.status == 0, (told, run))
 
 
 def text(source):
@@ -466,8 +490,8 @@ def test_refused_texts(tests):
 
 
 def test_texts_of_other_servers(tests):
-    """A server whose trail is one file takes texts too; one whose clients seal doesn't know them."""
-    for name, words, wanted in (("in one file", ["--seal", "itself", "--trail", "texts.json"], True), ("by hand", [], False)):
+    """A server that seals itself takes texts, also where its connections are counted; one whose clients seal doesn't know them."""
+    for name, words, wanted in (("that seals itself", ["--seal", "itself"], True), ("by hand", [], False)):
         with serving(tests, *words, connections=1) as server:
             peer = Peer(server.port)
             told = peer.ask(text(TEXT))

@@ -68,9 +68,6 @@ def test_refusals(tests):
     with serving(tests) as server:
         answer = told(server, json.dumps({"op": "replace", "text": FIELD + adds("add", 1)}))
         tests.check("where clients seal", answer == [{"error": [901]}], answer)
-    with serving(tests, "--trail", "one.json", connections=None) as server:
-        answer = told(server, json.dumps({"op": "replace", "text": FIELD + adds("add", 1)}))
-        tests.check("where all trails go into one file", answer == [{"error": [901]}], answer)
 
 
 def test_two_at_once(tests):

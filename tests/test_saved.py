@@ -52,14 +52,13 @@ def asked(server, *requests):
 
 
 def test_serve(tests):
-    """Servers whose clients seal, servers that seal by themselves, with one file of trails and with a folder, and servers with a store."""
+    """Servers whose clients seal, servers that seal by themselves, and servers with a store."""
     seal, grow = json.dumps({"op": "seal"}), json.dumps({"op": "grow", "parents": [0]})
     tests.path("trails").mkdir()
     tests.path("stored").mkdir()
     for name, connections, words, requests, trail in (
         ("by hand", 1, ["--trail", "trail.json"], (ADD, CALL), "trail.json"),
         ("by hand, with a seal", 1, ["--trail", "trail.json"], (ADD, CALL, seal, CALL), "trail.json"),
-        ("in one file", 1, ["--seal", "itself", "--trail", "trail.json"], (ADD, CALL, seal, CALL), "trail.json"),
         ("in a folder", None, ["--trails", "trails"], (ADD, CALL, seal, CALL, grow, CALL), "trails/1.json"),
         ("with a store", None, ["--trails", "stored", "--store", STORE], (ADD, CALL, grow, CALL, CALL), "stored/1.json"),
     ):

@@ -100,6 +100,32 @@ def test_refused(tests):
         end(tests, server, "the end after refusals")
 
 
+def mode(tests, name):
+    return tests.path(name).stat().st_mode & 0o777
+
+
+def test_modes(tests):
+    """A new store has the mode that --mode says, whatever the umask, and its log and its copies have the mode of the store."""
+    tests.path(FOLDER).mkdir()
+    for digits in ("600", "640", "666"):
+        name, wanted = f"of-{digits}.db", int(digits, 8)
+        with serving(tests, "--store", name, "--snapshots", FOLDER, "--mode", digits, connections=None) as server:
+            told(server, ADD, call(0, 3))
+            run = snapshot(tests, server, name)
+            found = [mode(tests, each) for each in (name, f"{name}-wal", f"{FOLDER}/{name}")]
+            tests.check(f"modes of {digits}", run.status == 0 and found == [wanted] * 3, (run, found))
+            tests.path(name).chmod(0o604)
+            run = snapshot(tests, server, f"later-{name}")
+            tests.check("a copy of a store of another mode", run.status == 0 and mode(tests, f"{FOLDER}/later-{name}") == 0o604, run)
+            end(tests, server, "the end")
+        with again(tests, name, "--mode", "660") as server:
+            end(tests, server, "the end of the next one")
+        tests.check("a store that is there keeps its mode", mode(tests, name) == 0o604, oct(mode(tests, name)))
+    for words in (["--store", "bad.db", "--mode", "68"], ["--mode", "600"]):
+        run = tests.run("serve", "--port", "1", "--control", "2", "--tree", "examples/one-node.json", *words)
+        tests.check(f"serve {' '.join(words)}", run.status == 2 and "--mode is " in run.err and not tests.path("bad.db").exists(), run)
+
+
 def test_no_copies(tests):
     """Servers that make none: without a folder, without a store, of which clients seal, and none at all."""
     refused = (1, lines({"error": [901]}))

@@ -4,6 +4,7 @@ The files are read by Python's own SQLite while no server has them open. `test_f
 """
 
 import contextlib
+import fcntl
 import json
 import os
 import random
@@ -403,6 +404,55 @@ def test_exports(tests):
         server.end()
     trails = check_export(tests, name, "ended", [2, 1, 3])
     tests.check("an export after a start", told == [6 + full] and trails[-1]["end"][0][0] == 6 + full, (told, trails[-1]["end"]))
+
+
+def test_reading(tests):
+    """Who may only read a store and its folder can audit and export it. Nothing is made or changed there, with a log and without one."""
+    # To root each file may be written, so another user reads.
+    user = 65534 if os.geteuid() == 0 else None
+    vault, name = tests.path("vault"), "vault/read.db"
+    for made_folder, mode in ((tests.folder, 0o755), (vault, 0o755), (tests.path("killed"), 0o777), (tests.path("ended"), 0o777)):
+        made_folder.mkdir(exist_ok=True)
+        made_folder.chmod(mode)
+
+    def held():
+        return {file.name: (file.read_bytes(), file.stat().st_mtime_ns, file.stat().st_ino) for file in vault.iterdir()}
+
+    def reads(what, folder, orders):
+        for file in vault.iterdir():
+            file.chmod(0o444)
+        vault.chmod(0o555)
+        before = held()
+        audit, export = tests.run("audit", name, user=user), tests.run("export", name, folder, user=user)
+        tests.check(f"{what}: the audit", (audit.status, audit.out, audit.err) == (0, lines({"orders": orders}), ""), audit)
+        tests.check(f"{what}: the export", (export.status, export.out) == (0, lines({"epochs": len(orders), "files": 1})), export)
+        tests.check(f"{what}: the files", held() == before, (sorted(before), sorted(held())))
+        tests.answers(f"{what}: its trails", ["audit", f"{folder}/0.json"], 0, lines({"orders": orders}), "")
+        vault.chmod(0o755)
+        for file in vault.iterdir():
+            file.chmod(0o644)
+
+    with made(tests, name) as server:
+        peer = Peer(server.port)
+        for line in (ADD, call(0, 3), call(0, 4)):
+            peer.ask(line)
+        kill(server)
+    tests.check("a kill leaves a log", tests.bytes(f"{name}-wal") != b"", sorted(held()))
+    reads("after a kill", "killed", [[0, 1]])
+    tests.path(f"{name}-wal").chmod(0)
+    run = tests.run("audit", name, user=user)
+    tests.check("a log that may not be read", (run.status, run.out) == (3, lines({"error": [1001, 1]})), run)
+    tests.path(f"{name}-wal").chmod(0o644)
+    with again(tests, name) as server:
+        server.stop()
+        server.end()
+    tests.path(f"{name}-wal").unlink()
+    reads("without a log", "ended", [[0, 1]])
+    with open(tests.path(name), "rb+") as file:
+        for what, kind, answer in (("another that reads", fcntl.LOCK_SH, (0, lines({"orders": [[0, 1]]}))), ("one that writes", fcntl.LOCK_EX, (3, lines({"error": [1002]})))):
+            fcntl.lockf(file, kind, 512, 1 << 30)
+            run = tests.run("audit", name)
+            tests.check(f"an audit beside {what}", (run.status, run.out) == answer, run)
 
 
 def test_exports_refused(tests):

@@ -39,7 +39,11 @@ fn save() -> Row {
 }
 
 fn trail() -> Row {
-    Row::option("trail", "F", "The file that the trail is written to")
+    trail_with("The file that the trail is written to")
+}
+
+fn trail_with(help: &'static str) -> Row {
+    Row::option("trail", "F", help)
 }
 
 fn script() -> Row {
@@ -293,7 +297,7 @@ fn address_rows() -> [Row; 3] {
         Row::option(
             "mode",
             "OCTAL",
-            "The permissions of the files of sockets, three octal digits; 600 if not given: the user of the server alone",
+            "The permissions of the files of sockets and of a new store, three octal digits; if not given, 600 of sockets, the user of the server alone, and 644 of a store, less the umask",
         ),
     ]
 }
@@ -357,7 +361,7 @@ fn epoch_rows() -> [Row; 5] {
             "The folder that each generation's trails are written to, as 0.json, 1.json and so on",
         )
         .excluding("trail"),
-        trail(),
+        trail_with("The file that the trail is written to, of a server whose clients seal"),
         save(),
     ]
 }

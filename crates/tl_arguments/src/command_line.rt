@@ -149,6 +149,8 @@ pub enum Request<'a> {
         tree: Option<&'a str>,
         /// The folder of the store's copies.
         copies: Option<&'a str>,
+        /// The permissions of a store's file that is made.
+        mode: Option<u32>,
         options: ServeOptions<'a>,
         procedures: Vec<&'a str>,
         save: Option<&'a str>,
@@ -202,6 +204,11 @@ fn who_seals<'a>(words: &ArgMatches<'a>) -> Result<Sealing<'a>, &'static str> {
         Some(_) => return Err("--seal is followed by by-hand or itself"),
         None => connections.is_some(),
     };
+    if !is_by_hand && words.contains_id("trail") {
+        return Err(
+            "--trail is for a server whose clients seal: --connections. One that seals itself writes a file for each generation, --trails FOLDER, or stores its calls, --store FILE",
+        );
+    }
     match connections {
         Some(_) if is_by_hand && has_lasting_options(words) => Err(
             "--generation, --trails, --store and --proc are for a server that seals itself: --seal itself",
@@ -249,15 +256,23 @@ fn octal(digits: &str) -> Option<u32>
     Some(octal_digit(owner)? * 64 + octal_digit(group)? * 8 + octal_digit(others)?)
 }
 
-// The permissions of the files of sockets; or why the options don't go together.
-fn mode_of(words: &ArgMatches<'_>) -> Result<u32, &'static str> {
+// The permissions of the files that are made, of sockets and of a store, if the words say them; or why the options don't go together.
+fn mode_of(words: &ArgMatches<'_>) -> Result<Option<u32>, &'static str> {
     let Some(digits) = words.get_str("mode") else {
-        return Ok(MODE);
+        return Ok(None);
     };
-    if !words.contains_id("socket") && !words.contains_id("control-socket") {
-        return Err("--mode is for the file of a socket: --socket or --control-socket");
+    let makes_files = words.contains_id("socket")
+        || words.contains_id("control-socket")
+        || words.contains_id("store");
+    if !makes_files {
+        return Err(
+            "--mode is for the file of a socket or a store: --socket, --control-socket or --store",
+        );
     }
-    octal(digits).ok_or("--mode is followed by three octal digits, as in 660")
+    match octal(digits) {
+        Some(mode) => Ok(Some(mode)),
+        None => Err("--mode is followed by three octal digits, as in 660"),
+    }
 }
 
 // The words of all arguments of that name.
@@ -303,7 +318,7 @@ fn serve_options<'a>(words: &ArgMatches<'a>) -> Option<ServeOptions<'a>> {
         address: address_of(words, "port", "socket")?,
         at_once: words.get_one("at-once").unwrap_or(AT_ONCE),
         control: address_of(words, "control", "control-socket"),
-        mode: mode_of(words).ok()?,
+        mode: mode_of(words).ok()?.unwrap_or(MODE),
         idle: words.get_one("idle"),
         sealing: who_seals(words).ok()?,
     })
@@ -315,6 +330,7 @@ fn store_request<'a>(alloc: Global, words: &ArgMatches<'a>) -> Option<Request<'a
         store: words.get_str("store")?,
         tree: words.get_str("tree"),
         copies: words.get_str("snapshots"),
+        mode: mode_of(words).ok()?,
         options: serve_options(words)?,
         procedures: all_of(alloc, words, "proc")?,
         save: words.get_str("save"),
@@ -382,11 +398,6 @@ fn asked_of<'a>(alloc: Global, matches: &ArgMatches<'a>) -> Option<Asked<'a>> {
         }
         if let Err(reason) = mode_of(words) {
             return Some(Asked::Mistaken(reason));
-        }
-        if words.contains_id("store") && words.contains_id("trail") {
-            return Some(Asked::Mistaken(
-                "--trail is for one generation, and a store has many: --trails FOLDER",
-            ));
         }
         if words.contains_id("snapshots") && !words.contains_id("store") {
             return Some(Asked::Mistaken("--snapshots is for a store: --store"));

@@ -18,9 +18,7 @@ use tl_workers::{Engine, Session};
 #[derive(Drop)]
 pub enum Trails {
     Nowhere,
-    /// All into this file: there is one generation.
-    File(String),
-    /// Into this folder, a file for each generation.
+    /// Into this folder, a file for each generation. One that is there already isn't replaced.
     Folder(String),
 }
 
@@ -125,7 +123,6 @@ impl<R: Files + Eprint> Archive<R> {
     fn write(&self, alloc: Global, generation: &Generation) -> Result<(), CliFault> {
         match &self.trails {
             Trails::Nowhere => Ok(()),
-            Trails::File(path) => self.write_file(alloc, path.as_str(), generation),
             Trails::Folder(folder) => {
                 let number = self.count.saturating_sub(1);
                 let path = format!(in alloc; "{folder}/{number}.json")?;
@@ -140,7 +137,7 @@ impl<R: Files + Eprint> Archive<R> {
         path: &str,
         generation: &Generation,
     ) -> Result<(), CliFault> {
-        let mut file = TrailFile::new(&self.rt, path);
+        let mut file = TrailFile::that_is_new(&self.rt, path);
         let written = keep_generation(alloc, generation, &mut file);
         if let Some(reason) = file.into_reason() {
             let _shown = eprintln!(&self.rt; "treedb: {path} can't be written: {reason}");

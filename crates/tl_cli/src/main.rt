@@ -92,7 +92,8 @@ where
     K: Keeper + Texts + Finish + Send + Drop,
     F: FnOnce(Trails, Succession, u32) -> K + Drop,
     J: Journal + End + Sync + Drop,
-    O: FnOnce(&str, Option<Tree>, Option<&str>) -> Result<Stored<J>, StoreRefusal> + Drop,
+    O: FnOnce(&str, Option<Tree>, Option<&str>, Option<u32>) -> Result<Stored<J>, StoreRefusal>
+        + Drop,
     E: Epochs + Drop,
     X: FnOnce(&str) -> Result<E, FileFault> + Drop,
     requires archive { F.IsAlwaysCallable archive }
@@ -122,7 +123,7 @@ fn main(rt: HostRuntime) -> ExitCode {
             &words,
             rt.stderr().is_terminal(),
             |trails, succession, nodes| Archive::new(rt, trails, succession, nodes),
-            |path, tree, copies| open_stored(&rt, path, tree, copies),
+            |path, tree, copies, mode| open_stored(&rt, path, tree, copies, mode),
             |path| open_epochs(&rt, path),
         ),
         Err(status) => status,

@@ -454,7 +454,8 @@ where
         K: Keeper + Texts + Finish + Send + Drop,
         F: FnOnce(Trails, Succession, u32) -> K + Drop,
         J: Journal + End + Sync + Drop,
-        O: FnOnce(&str, Option<Tree>, Option<&str>) -> Result<Stored<J>, StoreRefusal> + Drop,
+        O: FnOnce(&str, Option<Tree>, Option<&str>, Option<u32>) -> Result<Stored<J>, StoreRefusal>
+            + Drop,
         E: Epochs + Drop,
         X: FnOnce(&str) -> Result<E, FileFault> + Drop,
         requires archive { F.IsAlwaysCallable archive }
@@ -471,6 +472,7 @@ where
                 store,
                 tree,
                 copies,
+                mode,
                 options,
                 procedures,
                 save,
@@ -479,6 +481,7 @@ where
                     store,
                     tree: *tree,
                     copies: *copies,
+                    mode: *mode,
                     save: *save,
                 };
                 self.serve_store(files, *options, procedures, archive, opens)
@@ -516,7 +519,8 @@ where
         K: Keeper + Texts + Finish + Send + Drop,
         F: FnOnce(Trails, Succession, u32) -> K + Drop,
         J: Journal + End + Sync + Drop,
-        O: FnOnce(&str, Option<Tree>, Option<&str>) -> Result<Stored<J>, StoreRefusal> + Drop,
+        O: FnOnce(&str, Option<Tree>, Option<&str>, Option<u32>) -> Result<Stored<J>, StoreRefusal>
+            + Drop,
         E: Epochs + Drop,
         X: FnOnce(&str) -> Result<E, FileFault> + Drop,
         requires archive { F.IsAlwaysCallable archive }

@@ -3,6 +3,7 @@
 ghost use Rattle.std.specs.Prelude.{◌≡◌};
 
 use crate::CliFault;
+use std::fs::OpenOptions;
 use std::io::Write;
 use std::rt::Files;
 use std::{fs, io};
@@ -13,20 +14,42 @@ use tl_commands::TrailSink;
 pub struct TrailFile<'a, R: Files> {
     rt: &'a R,
     path: &'a str,
+    // Whether a file that is there stays, and nothing is written.
+    is_new: bool,
     file: Option<R::File>,
     reason: Option<io::Error>,
     failed: u64,
 }
 
 impl<'a, R: Files> TrailFile<'a, R> {
+    /// A file that replaces the one that is there.
     pub fn new(rt: &'a R, path: &'a str) -> TrailFile<'a, R> {
         TrailFile {
             rt,
             path,
+            is_new: false,
             file: None,
             reason: None,
             failed: 0,
         }
+    }
+
+    /// A file that can't be written where there is one already.
+    pub fn that_is_new(rt: &'a R, path: &'a str) -> TrailFile<'a, R> {
+        let mut file = TrailFile::new(rt, path);
+        file.is_new = true;
+        file
+    }
+
+    // Makes the file.
+    fn make(&self) -> io::Result<R::File> {
+        if !self.is_new {
+            return fs::create(self.rt, self.path);
+        }
+        OpenOptions::new()
+            .write(true)
+            .create_new(true)
+            .open(self.rt, self.path)
     }
 
     /// Why a piece couldn't be written, if one couldn't.
@@ -39,7 +62,7 @@ impl<'a, R: Files> TrailFile<'a, R> {
         ensures { self.new.failed ≡ self.old.failed }
     {
         if self.file.is_none() {
-            self.file = Some(fs::create(self.rt, self.path)?);
+            self.file = Some(self.make()?);
         }
         match &mut self.file {
             Some(file) => file.write_all(piece.as_bytes()),

@@ -8,11 +8,10 @@ ghost use Rattle.tl_ledger.specs.Contents.{Contents, AreTables};
 
 use crate::exporting::export_files;
 use crate::files::TrailFiles;
-use sqlite_std_file::File;
 use sqlite_store::FileStore;
 use std::alloc::Global;
 use tl_export::ExportFault;
-use tl_store_file::{FileFault, Found, Rested};
+use tl_store_file::{FileFault, Found, ReadFile, Rested, open_to_read};
 
 /// Epochs whose trails can be put into files.
 pub trait Epochs {
@@ -31,7 +30,7 @@ pub trait Epochs {
 /// The epochs of a store in a file. As a type of its own it hides the types of the file: what exports is proved without them.
 #[derive(Drop)]
 pub struct FileEpochs {
-    store: FileStore<File>,
+    store: FileStore<ReadFile>,
     ghost tables: { IsClean (view store) → AreTables (view store) },
 }
 
@@ -47,10 +46,10 @@ impl Epochs for FileEpochs {
     }
 }
 
-/// Opens the store of that path, to read it: nothing is committed, so what calls did since the last seal stays as it is. 1003 if the file is empty, and
-/// all faults of `tl_store_file::open`. As long as it is open, others find it locked.
+/// Opens the store of that path, to read it: nothing is made or written there. 1003 if the file is empty, and all faults of
+/// `tl_store_file::open_to_read`. As long as it is open, others may read it, and find it locked if they would write.
 pub fn open_epochs(rt: &HostRuntime, path: &str) -> Result<FileEpochs, FileFault> {
-    match tl_store_file::open(rt, path)? {
+    match open_to_read(rt, path)? {
         Found::Store(rested) => {
             let Rested { store } = rested;
             Ok(FileEpochs { store })

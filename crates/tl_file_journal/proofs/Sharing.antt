@@ -38,4 +38,4 @@ string_sync : IsSync string
 string_sync = strings.the_sync Global.the_row allocator.ghosts (search sendable depth 30)
 
 pub journal_sync : IsSync the_row
-journal_sync = declared_sync the_type (ledgers.the_sync store _ store_send, (search sendable depth 30, (options.the_sync string string_sync, tt)))
+journal_sync = declared_sync the_type (ledgers.the_sync store _ store_send, (search sendable depth 30, (string_sync, (options.the_sync string string_sync, tt))))

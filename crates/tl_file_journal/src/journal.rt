@@ -21,8 +21,9 @@ use tl_workers::Engine;
 #[derive(Drop)]
 pub struct FileJournal {
     pub(crate) ledger: LedgerJournal<FileStore<File>>,
-    // Where the files are, and the folder of the copies.
+    // Where the files are, the path of the store's, and the folder of the copies.
     pub(crate) files: HostRuntime,
+    pub(crate) path: String,
     pub(crate) copies: Option<String>,
 }
 
@@ -108,7 +109,13 @@ impl Journal for FileJournal {
             return Err(CopyRefusal::Broken);
         };
         let mut ledger = ledger;
-        let written = write_snapshot(&self.files, &mut ledger, folder.as_str(), name);
+        let written = write_snapshot(
+            &self.files,
+            &mut ledger,
+            self.path.as_str(),
+            folder.as_str(),
+            name,
+        );
         self.ledger.give_back(rt, ledger);
         written.map_err(refusal_of)
     }

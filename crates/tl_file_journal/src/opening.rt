@@ -26,7 +26,7 @@ use tl_journal::LedgerJournal;
 use tl_procedures::Procedures;
 use tl_store::StoreFault;
 use tl_store_commands::{Beginning, Retaken, has_no_rows, make_store, remember_keys, reopen_store};
-use tl_store_file::{Found, Rested};
+use tl_store_file::{Found, Rested, open_with_mode};
 use tl_tree::Tree;
 use tl_workers::Engine;
 
@@ -71,10 +71,11 @@ fn opening_of<S: Store + Drop>(
     })
 }
 
-// The same opening, whose journal is known to be on a file, and writes its copies into that folder.
+// The same opening, whose journal is known to be on the file of that path, and writes its copies into that folder.
 fn on_file(
     opening: Opening<LedgerJournal<FileStore<File>>>,
     files: HostRuntime,
+    path: String,
     copies: Option<String>,
 ) -> Opening<FileJournal> {
     let Opening {
@@ -88,6 +89,7 @@ fn on_file(
         journal: FileJournal {
             ledger: journal,
             files,
+            path,
             copies,
         },
         succession,
@@ -188,25 +190,38 @@ fn begin_in<D: Disk + Drop>(
     }
 }
 
-/// What a server on the store of that path opens with: what the store holds, or the tree where there is none yet. Its copies are written into the
-/// folder, if one is named. 1008 if there is neither store nor tree, 1009 if there are both; 1001 to 1006, and 1011 to 1013.
+// What the file of that path holds. One that is made gets the mode, if there is one.
+fn find_at(rt: &HostRuntime, path: &str, mode: Option<u32>) -> Result<Found<File>, StoreRefusal>
+    ensures { (result ≢ Err NoTree) × (result ≢ Err HasTree) }
+{
+    match mode {
+        Some(mode) => Ok(open_with_mode(rt, path, mode)?),
+        None => Ok(tl_store_file::open(rt, path)?),
+    }
+}
+
+/// What a server on the store of that path opens with: what the store holds, or the tree where there is none yet. A file that is made gets the mode, if
+/// one is named. Copies of the store are written into the folder, if one is named. 1008 if there is neither store nor tree, 1009 if there are both; 1001
+/// to 1006, 1011 to 1013, and 1018.
 pub fn open_stored(
     rt: &HostRuntime,
     path: &str,
     tree: Option<Tree>,
     copies: Option<&str>,
+    mode: Option<u32>,
 ) -> Result<Stored<FileJournal>, StoreRefusal>
     ensures retaken { IfOk result (λ s. IsSome s.retaken ↔ (tree ≡ None)) }
     ensures no_tree { result ≡ Err NoTree → tree ≡ None }
     ensures has_tree { result ≡ Err HasTree → IsSome tree }
 {
-    let (begun, retaken) = begin_in(rt.alloc(), tl_store_file::open(rt, path)?, tree)?;
+    let (begun, retaken) = begin_in(rt.alloc(), find_at(rt, path, mode)?, tree)?;
+    let path = String::from_str(rt.alloc(), path)?;
     let copies = match copies {
         Some(folder) => Some(String::from_str(rt.alloc(), folder)?),
         None => None,
     };
     Ok(Stored {
-        opening: on_file(opening_of(rt.alloc(), begun)?, *rt, copies),
+        opening: on_file(opening_of(rt.alloc(), begun)?, *rt, path, copies),
         retaken,
     })
 }

@@ -11,9 +11,10 @@ use crate::filling::fill;
 use crate::name::is_snapshot_name;
 use sqlite_trees::store::Store;
 use std::alloc::{AllocError, Global};
+use std::os::unix::fs::PermissionsExt;
 use std::{fs, io};
 use tl_ledger::Ledger;
-use tl_store_file::Found;
+use tl_store_file::{Found, open_with_mode};
 
 // The files of a copy: what it is named in the end, and before it is whole.
 #[derive(Drop)]
@@ -67,10 +68,19 @@ fn sync_folder(rt: &HostRuntime, folder: &str) -> io::Result<()> {
     fs::open(rt, folder)?.sync_all()
 }
 
-// Writes a copy into the part. The files are closed then.
+// Who may read and write a store's file.
+fn mode_of(rt: &HostRuntime, store: &str) -> Result<u32, SnapshotFault> {
+    match fs::metadata(rt, store) {
+        Ok(metadata) => Ok(metadata.permissions().mode() & 0o777),
+        Err(_) => Err(SnapshotFault::Unwritten),
+    }
+}
+
+// Writes a copy into the part, which gets the mode of the store's file. The files are closed then.
 fn write_part<S: Store>(
     rt: &HostRuntime,
     ledger: &mut Ledger<S>,
+    store: &str,
     part: &str,
 ) -> Result<(), SnapshotFault>
     requires open { ledger.old.is_shut ≡ false }
@@ -79,7 +89,7 @@ fn write_part<S: Store>(
     ensures marks { ledger.new.marks ≡ ledger.old.marks }
     ensures quiet { IsQuiet S.Store.view S.Store.faults S.Store.recovers S.Store.is_shielded ledger.old.store ledger.new.store }
 {
-    match tl_store_file::open(rt, part)? {
+    match open_with_mode(rt, part, mode_of(rt, store)?)? {
         Found::Blank(blank) => {
             let copy = fill(rt.alloc(), ledger, blank)?;
             drop(copy.close());
@@ -89,12 +99,13 @@ fn write_part<S: Store>(
     }
 }
 
-/// Writes all that a ledger has stored into the file of that name in a folder: a store that a server can take up, in one file, without a log. Until it is
-/// whole, its name ends with `.part`; where it doesn't become whole, no file is left. A file that is there isn't replaced. The ledger stays as it is; only
-/// if its own store fails, it is shut.
+/// Writes all that a ledger has stored into the file of that name in a folder: a store that a server can take up, in one file, without a log, of the mode
+/// that `store` has, the ledger's file. Until it is whole, its name ends with `.part`; where it doesn't become whole, no file is left. A file that is there
+/// isn't replaced. The ledger stays as it is; only if its own store fails, it is shut.
 pub fn write_snapshot<S: Store>(
     rt: &HostRuntime,
     ledger: &mut Ledger<S>,
+    store: &str,
     folder: &str,
     name: &str,
 ) -> Result<(), SnapshotFault>
@@ -119,7 +130,7 @@ pub fn write_snapshot<S: Store>(
     }
     // What an earlier one has left that was cut off.
     paths.remove_part(rt);
-    let written = write_part(rt, ledger, paths.part.as_str());
+    let written = write_part(rt, ledger, store, paths.part.as_str());
     if written.is_ok() && paths.finish(rt, folder).is_ok() {
         return Ok(());
     }

@@ -5,6 +5,13 @@
 
 mod fault;
 mod opening;
+mod paths;
+mod reader;
+mod reading;
+mod record;
 
 pub use fault::{FileFault, Hindrance};
-pub use opening::{Blank, Found, Rested, find, open};
+pub use opening::{Blank, Found, Rested, find};
+pub use paths::{ReadFile, open, open_to_read, open_with_mode};
+pub use reader::{Content, Reader};
+pub use reading::ReadFrom;

@@ -7,28 +7,17 @@ ghost use Rattle.sqlite_trees.specs.View.{IsClean};
 ghost use Rattle.tl_ledger.specs.Contents.{IsAtRest, Holds};
 ghost use Rattle.tl_store_file.specs.Listed.{ListsTables};
 
-use crate::fault::{FileFault, Hindrance};
-use sqlite_disk::{Disk, Files, Tally, Unknown};
+use crate::fault::FileFault;
+use sqlite_disk::{Disk, Files, Tally};
 use sqlite_pager::{Options, Pager};
 use sqlite_pool::probe_blank;
-use sqlite_std_file::File;
 use sqlite_store::{FileStore, OpenError, Unopened, name_fault};
 use sqlite_wal::PageSize;
 use std::alloc::Global;
-use std::hash::{BuildHasher, RandomState};
-use std::io::{self, ErrorKind};
 use tl_ledger::tables;
 
 /// How many bytes a page has.
 const PAGE: usize = 4096;
-
-/// What the system says where a file system has no locks: ENOLCK and EOPNOTSUPP.
-const NO_LOCKS: i32 = 37;
-
-const NOT_SUPPORTED: i32 = 95;
-
-/// What the system says where a disk fails: EIO.
-const IO_FAILED: i32 = 5;
 
 /// A file and its log that hold no database.
 #[derive(Drop)]
@@ -145,42 +134,5 @@ pub fn find<D: Disk + Drop>(
     match unopened.open() {
         Ok(store) => Ok(Found::Store(Rested { store })),
         Err((error, unopened)) => Err(fault_of(error, before, unopened.tally())),
-    }
-}
-
-// What keeps a file from being opened, by what the system says. What is no regular file with one name has no number of the system, and is `Unsupported`.
-fn hindrance_of(error: &io::Error) -> Hindrance {
-    if matches!(error.raw_os_error(), Some(NO_LOCKS | NOT_SUPPORTED)) {
-        return Hindrance::NoLocks;
-    }
-    match error.kind() {
-        ErrorKind::PermissionDenied => Hindrance::Permission,
-        ErrorKind::NotFound => Hindrance::NoFolder,
-        ErrorKind::Unsupported | ErrorKind::IsADirectory => Hindrance::NotRegular,
-        _ => Hindrance::Other,
-    }
-}
-
-// Why a file isn't opened, by what the system says: its disk, or something that keeps it from being opened.
-fn refusal_of(error: &io::Error) -> FileFault {
-    match (error.kind(), error.raw_os_error()) {
-        (ErrorKind::StorageFull, _) => FileFault::DiskFull,
-        (_, Some(IO_FAILED)) => FileFault::DiskFailed,
-        _ => FileFault::Unopened(hindrance_of(error)),
-    }
-}
-
-/// What the file of that path holds, and its log beside it. Both are made if they aren't there. As long as they are open, others find the
-/// database locked.
-pub fn open(rt: &HostRuntime, path: &str) -> Result<Found<File>, FileFault> {
-    let Ok(state) = RandomState::new(rt) else {
-        return Err(FileFault::DiskFailed);
-    };
-    match sqlite_std_file::open(rt, path, Unknown) {
-        Ok(files) => find(rt.alloc(), files, state.hash_one(&0u8)),
-        Err(sqlite_std_file::OpenError::OutOfMemory) => Err(FileFault::Memory),
-        Err(sqlite_std_file::OpenError::Busy) => Err(FileFault::Busy),
-        Err(sqlite_std_file::OpenError::HotJournal) => Err(FileFault::Unopened(Hindrance::Journal)),
-        Err(sqlite_std_file::OpenError::Io(error)) => Err(refusal_of(&error)),
     }
 }

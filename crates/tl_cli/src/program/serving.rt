@@ -148,7 +148,7 @@ where
                 self.serve_sealed_by_hand(&file, options, connections, outputs)
             }
             Sealing::Itself(lasting) => {
-                self.serve_lasting(&file, options, lasting, procedures, outputs, archive)
+                self.serve_lasting(&file, options, lasting, procedures, outputs.tree, archive)
             }
         }
     }
@@ -173,14 +173,14 @@ where
         Ok(lines)
     }
 
-    // A server that seals its epochs by itself, generation after generation.
+    // A server that seals its epochs by itself, generation after generation. The tree is saved in the end, if a file is named for it.
     fn serve_lasting<'p, K, F>(
         &self,
         tree: &[u8],
         options: ServeOptions<'p>,
         lasting: LastingOptions<'p>,
         procedures: &[&'p str],
-        outputs: Outputs<'p>,
+        save: Option<&'p str>,
         archive: F,
     ) -> Result<String, Failure<'p>>
     where
@@ -189,7 +189,7 @@ where
         requires { F.IsAlwaysCallable archive }
     {
         let alloc = self.rt.alloc();
-        let trails = self.trails_of(lasting, outputs.trail)?;
+        let trails = self.trails_of(lasting)?;
         let (engine, succession) = open_generations(alloc, tree, self.nodes)?;
         let opening = Opening {
             engine,
@@ -197,9 +197,7 @@ where
             succession,
             known: Procedures::new(alloc),
         };
-        self.serve_opened(
-            opening, trails, options, lasting, procedures, outputs, archive,
-        )
+        self.serve_opened(opening, trails, options, lasting, procedures, save, archive)
     }
 
     /// What a server that lasts prints, once all connections have ended, or once it was asked to stop.
@@ -210,7 +208,7 @@ where
         options: ServeOptions<'p>,
         lasting: LastingOptions<'p>,
         procedures: &[&'p str],
-        outputs: Outputs<'p>,
+        save: Option<&'p str>,
         archive: F,
     ) -> Result<String, Failure<'p>>
     where
@@ -220,8 +218,6 @@ where
         requires { F.IsAlwaysCallable archive }
     {
         self.register_named(&opening.engine, &opening.known, procedures)?;
-        // One file has one generation.
-        let one = matches!(trails, Trails::File(_));
         let Opening {
             engine,
             journal,
@@ -229,18 +225,9 @@ where
             known: _,
         } = opening;
         let archive = archive(trails, succession, self.nodes);
-        let epochs = if one {
-            u32::MAX
-        } else {
-            u32::from(lasting.generation)
-        };
+        let epochs = u32::from(lasting.generation);
         let relay = Relay::new(self.rt.alloc(), engine, archive, journal, epochs);
-        let relay = if one {
-            relay.that_does_not_grow()
-        } else {
-            relay
-        };
-        self.serve_relay(relay, options, lasting.connections, outputs)
+        self.serve_relay(relay, options, lasting.connections, save)
     }
 
     // Serves the connections of a relay, closes its engine and its journal, and says what it came to.
@@ -249,7 +236,7 @@ where
         relay: Relay<K, J>,
         options: ServeOptions<'p>,
         connections: Option<u16>,
-        outputs: Outputs<'p>,
+        save: Option<&'p str>,
     ) -> Result<String, Failure<'p>>
     where
         K: Keeper + Texts + Finish + Send + Drop,
@@ -264,7 +251,7 @@ where
         if let Err(fault) = ended {
             return Err(Failure::from(fault));
         }
-        self.conclude(&mut archive, outputs)
+        self.conclude(&mut archive, save)
     }
 
     // Registers the procedures that the command line names. One that is known already, under this name and with this code, is passed over.
@@ -288,14 +275,7 @@ where
     }
 
     // Where the trails go. 32 if the folder isn't there, or has files of other generations.
-    pub(crate) fn trails_of<'p>(
-        &self,
-        lasting: LastingOptions<'p>,
-        trail: Option<&'p str>,
-    ) -> Result<Trails, Failure<'p>> {
-        if let Some(path) = trail {
-            return Ok(Trails::File(String::from_str(self.rt.alloc(), path)?));
-        }
+    pub(crate) fn trails_of<'p>(&self, lasting: LastingOptions<'p>) -> Result<Trails, Failure<'p>> {
         let Some(folder) = lasting.trails else {
             return Ok(Trails::Nowhere);
         };
@@ -361,12 +341,12 @@ where
     fn conclude<'p, K: Finish>(
         &self,
         archive: &mut K,
-        outputs: Outputs<'p>,
+        save: Option<&'p str>,
     ) -> Result<String, Failure<'p>> {
         let alloc = self.rt.alloc();
         let generations = archive.finish(alloc)?;
         let lines = generations_lines(alloc, generations, archive.tree())?;
-        self.save_last(outputs.tree, archive.tree(), &lines)?;
+        self.save_last(save, archive.tree(), &lines)?;
         let Some(fault) = archive.unwritten() else {
             return Ok(lines);
         };
