@@ -1,5 +1,5 @@
 -- Only whether the tree may have been entered; tl_lowering's specs/Passing.antt has this together with the children that were passed.
-use Rattle.std.proofs.Common.{◌≡◌, Bool, true, false, ◌||◌, Option, Some, None, option_map, refl, sym, ◌∙◌, ap₂, subst}
+use Rattle.std.proofs.Common.{◌≡◌, ℕ, Bool, true, false, ◌||◌, Option, Some, None, option_map, refl, sym, ◌∙◌, ap, ap₂, subst}
 use Rattle.std.specs.Prelude.{IfSome}
 use Rattle.tl_lowering.specs.declared.program.Place.{Place}
 use Rattle.tl_lowering.specs.declared.program.Place.TheVariants as P
@@ -7,7 +7,7 @@ use Rattle.tl_lowering.specs.declared.program.Statement.{Statement}
 use Rattle.tl_lowering.specs.declared.program.Statement.TheVariants as S
 use Rattle.tl_lowering.specs.Outcomes.{may_fail, condition_may_fail}
 use Rattle.tl_lowering.specs.Passing as passing
-use Rattle.tl_lowering.specs.Passing.{Before, enters, behind_lock, missing, before_turn}
+use Rattle.tl_lowering.specs.Passing.{Before, enters, behind_lock, walks, through, before_turn}
 
 pub record Entered : Type 0 where
   pub after : Option Bool
@@ -156,9 +156,9 @@ lock_shows (P.Node n e) b = or_true b.entered
 lock_shows (P.Child n p e) b = or_false b.entered
 lock_shows (P.Pair n k p a c) b = or_false b.entered
 
-missing_shows : (place : Place) (o : Statement) (b : Before) → b.entered ≡ (missing place o b).entered
-missing_shows (P.Child n p e) S.Break b = refl
-missing_shows place o b = refl
+through_shows : (o : Option ℕ) (b : Before) → b.entered ≡ (through o b).entered
+through_shows None b = refl
+through_shows (Some n) b = refl
 
 pub entered_shows : (a : Statement) (b : Before) → Shows (entered a b.entered) (passing.entered a b)
 entered_shows S.Skip b = on_shows b
@@ -179,7 +179,7 @@ entered_shows (S.Let' v x p a) b = failing_shows (may_fail x) b (entered_shows a
 entered_shows (S.LetElse' v x p a q o) b = either_shows (entered_shows a b) (entered_shows o b)
 entered_shows (S.Lock' place p a q o) b =
     either_shows (subst (λ e. Shows (entered a e) (passing.entered a (behind_lock place b))) (sym (lock_shows place b)) (entered_shows a (behind_lock place b)))
-    (subst (λ e. Shows (entered o e) (passing.entered o (missing place o b))) (sym (missing_shows place o b)) (entered_shows o (missing place o b)))
+    (entered_shows o b)
 entered_shows (S.Try' p a q c) b =
     let s = entered_shows a b in
     let start = passing.or_else_of (passing.entered a b).fails b in
@@ -200,7 +200,7 @@ entered_shows (S.RepeatUpTo' n w p a) b =
     let x = entered a b.entered in
     let y = passing.entered a (before_turn a b) in
     record {
-      after = or_shows (Some b.entered) (or_of x.after x.breaks) (Some b) (passing.or_of y.after y.breaks) refl (or_shows x.after x.breaks y.after y.breaks s.after s.breaks);
+      after = or_shows (Some b.entered) (or_of x.after x.breaks) (Some (through (walks a) b)) (passing.or_of y.after y.breaks) (ap Some (through_shows (walks a) b)) (or_shows x.after x.breaks y.after y.breaks s.after s.breaks);
       fails = or_shows (Some b.entered) x.fails (Some b) y.fails refl s.fails;
       breaks = refl;
     }
@@ -233,15 +233,15 @@ enters_once (S.LetElse' v n p a q o) b (x, y) = (enters_once a b x, enters_once 
 enters_once (S.Lock' place p a q o) b (x, y, z) = (
   x,
   subst (λ e. EntersOnce a e) (sym (lock_shows place b)) (enters_once a (behind_lock place b) y),
-  subst (λ e. EntersOnce o e) (sym (missing_shows place o b)) (enters_once o (missing place o b) z),
+  enters_once o b z,
 )
 enters_once (S.Try' p a q c) b (x, y) =
     let same = else_shows (entered a b.entered).fails (passing.entered a b).fails b (entered_shows a b).fails in
     (enters_once a b x, subst (λ e. EntersOnce c e) (sym same) (enters_once c (passing.or_else_of (passing.entered a b).fails b) y))
-enters_once (S.Repeat' w p a) b (x, y, z) =
+enters_once (S.Repeat' w p a) b (x, y) =
     let start = before_turn a b in
     (enters_once a start x, if_shows (entered a b.entered).after (passing.entered a start).after (entered_shows a start).after (λ f. f ≡ true → b.entered ≡ true) (λ (c : Before). c.entered ≡ true → b.entered ≡ true) (λ c k. k) y)
-enters_once (S.RepeatUpTo' n w p a) b (x, y) =
+enters_once (S.RepeatUpTo' n w p a) b (x, y, z) =
     let start = before_turn a b in
     (enters_once a start x, if_shows (entered a b.entered).after (passing.entered a start).after (entered_shows a start).after (λ f. f ≡ true → b.entered ≡ true) (λ (c : Before). c.entered ≡ true → b.entered ≡ true) (λ c k. k) y)
 enters_once (S.At' offset p a) b x = enters_once a b x

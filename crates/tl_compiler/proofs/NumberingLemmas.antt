@@ -17,7 +17,7 @@ use Rattle.tl_lowering.specs.declared.program.Procedure.{Procedure}
 use Rattle.tl_lowering.specs.declared.program.Statement.{Statement}
 use Rattle.tl_lowering.specs.declared.program.Statement.TheVariants as S
 use Rattle.tl_lowering.specs.Names.{Names, with_values, with_place}
-use Rattle.tl_lowering.specs.Naming.{opposite, calculated, then, IsHalved, none, one, more, AreEmits, no_emits, next_emit, AreWritten, all_computed, next_computed, IsWritten, one_write, several_writes, IsAction, assigns, writes, emits, requires, descends, takes, frees, breaks, returns, fails}
+use Rattle.tl_lowering.specs.Naming.{calculated, then, IsHalved, none, one, more, AreEmits, no_emits, next_emit, AreWritten, all_computed, next_computed, IsWritten, one_write, several_writes, IsAction, assigns, writes, emits, requires, descends, takes, frees, breaks, returns, fails}
 use Rattle.tl_lowering.specs.Reading.{IsAtOffset, at, IsTried, tried, IsVisiting, visiting, IsBlock, block, AreStatements, no_more, next, let_rest, let_else, lock_rest, lock_else, IsStatement, IsActed, plain, used, IsGiven, all_given, node_given, value_given, act, act_else, try, if, if_lock, repeat, repeat_up_to, for_each, block_alone, IsBody, IsProcedure, AreDeclared, none_declared, next_field, next_constant, next_procedure, next_part, IsProgram}
 use Rattle.tl_lowering.specs.Sound.{IsInOrder}
 use Rattle.tl_compiler.specs.Rooms.{IsNumbered, IsReady}
@@ -35,7 +35,7 @@ halved d (more {xs = xs} long s t then) h =
     (halved d s (All-take (λ s. IsNumbered s d) (length xs / 2) xs h), halved d t (All-drop (λ s. IsNumbered s d) (length xs / 2) xs h))
 
 walk : (d : ℕ) {child parent turns : ℕ} {body whole : Statement} → IsNumbered body (d + 1) → IsVisiting d child parent turns body whole → IsNumbered whole d
-walk d x (visiting opposite calculated then then) = ((tt, tt), (refl, (tt, (x, tt))))
+walk d x (visiting calculated then) = (refl, (tt, (x, tt)))
 
 emitted : {names : Names} {xs : List TextExpression} {parts : List Statement} (d : ℕ) → AreEmits names xs parts → All (λ s. IsNumbered s d) parts
 emitted d no_emits = All-nil (λ s. IsNumbered s d)
@@ -43,7 +43,7 @@ emitted d (next_emit {emits = so_far} {e = e} a before n has) = All-push (λ s. 
 
 computed : {names : Names} {t : ℕ} {ws : List Write} {done whole : Statement} → AreWritten names t ws done whole → ((d : ℕ) → IsNumbered done d) → IsNumbered whole t
 computed {t = t} all_computed n = n t
-computed (next_computed u lt has then rest) n = (refl, computed rest (λ d. (n d, tt)))
+computed (next_computed u apart lt has then rest) n = (refl, computed rest (λ d. (n d, tt)))
 
 written : {names : Names} {w : Write} {ws : List Write} {s : Statement} → IsWritten names w ws s → IsNumbered s names.values
 written (one_write u has) = tt

@@ -1,5 +1,5 @@
 -- Alike blocks have the same core form, except for the memory that its parts occupy.
-use Rattle.std.proofs.Common.{◌≡◌, ◌∙◌, ℕ, zero, suc, ◌<◌, pos, List, [], ◌∷◌, ◌++◌, take, true, Some, refl, sym, ap, subst, arith}
+use Rattle.std.proofs.Common.{◌≡◌, ◌∙◌, ℕ, zero, suc, ◌<◌, List, [], ◌∷◌, ◌++◌, take, true, Some, refl, sym, ap, subst, arith}
 use Rattle.std.specs.Prelude.{slice_get}
 use Rattle.tl_syntax.specs.declared.parsed.Name.{Name}
 use Rattle.tl_syntax.specs.declared.parsed.Expression.{Expression as TextExpression}
@@ -19,11 +19,11 @@ use Rattle.tl_syntax.specs.Alike.{AreAlike, AlikePart, AlikeAction, AlikeForm, A
 use Rattle.tl_syntax.proofs.AlikeForms.{form_of, same_plain}
 use Rattle.tl_syntax.proofs.AlikeParts.{alike_itself, question_itself, action_rank, same_action_rank, let_of, lock_of, use_of, act_of, else_needed, no_else_needed, act_else_of, try_of, if_of, repeat_of, repeat_at_most_of, most_needed, no_most_needed, for_each_of, block_of, same_statement_rank, Paired, paired_none, paired_more, paired, statement_before}
 use Rattle.tl_lowering.specs.declared.program.Statement.{Statement}
-use Rattle.tl_lowering.specs.Alike.{same_constant, same_value, same_children, same_operation, same_greater, same_not, same_child, SameStatement, same_skip, same_sequence, same_assign, same_break, same_fail, same_if, same_let, same_let_else, same_lock, same_try, same_repeat, same_repeat_up_to, same_at, AllSame, none_same, more_same}
+use Rattle.tl_lowering.specs.Alike.{same_constant, same_value, same_children, same_operation, same_child, SameStatement, same_sequence, same_assign, same_fail, same_if, same_let, same_let_else, same_lock, same_try, same_repeat, same_repeat_up_to, same_at, AllSame, none_same, more_same}
 use Rattle.tl_lowering.specs.Drafts.{opens}
 use Rattle.tl_lowering.specs.Giving.{IsNodeGiven}
 use Rattle.tl_lowering.specs.Names.{Names, stands_for, index_of, inside, with_alias, in_loop, with_index, with_value, with_node}
-use Rattle.tl_lowering.specs.Naming.{calculated, opposite, IsAction, assigns, writes, emits, requires, descends, takes, frees, breaks, returns, fails, then, declares}
+use Rattle.tl_lowering.specs.Naming.{calculated, IsAction, assigns, writes, emits, requires, descends, takes, frees, breaks, returns, fails, then, declares}
 use Rattle.tl_lowering.specs.Reading.{IsAtOffset, at, IsTried, tried, IsVisiting, visiting, IsBlock, block, AreStatements, no_more, next, let_rest, let_else, lock_rest, lock_else, IsStatement, IsActed, plain, used, IsGiven, all_given, node_given, value_given, act, act_else, try, if, if_lock, repeat, repeat_up_to, for_each, block_alone}
 use Rattle.tl_lowering.proofs.AlikeLemmas.{alike_number, alike_condition, alike_count, alike_place, same_names, alike_halved, alike_action}
 
@@ -112,11 +112,10 @@ pub tried_of : {a b c d e f : Statement} → SameStatement a c → SameStatement
 tried_of x y tried tried = same_try x y
 
 visiting_of : {i k m n w v : ℕ} {a b e f : Statement} → m ≡ n → w ≡ v → SameStatement a b → IsVisiting i k m w a e → IsVisiting i k n v b f → SameStatement e f
-visiting_of same turns x (visiting opposite calculated then then) (visiting opposite calculated then then) =
-    same_sequence (same_if (same_not (same_greater (same_children same) (same_constant (ap pos turns)))) same_skip same_fail)
-    (same_let refl (same_constant refl)
-    (same_repeat turns
-    (same_sequence (same_assign refl (same_operation refl (same_value refl) (same_constant refl))) (same_lock (same_child refl same (same_value refl)) x same_break))))
+visiting_of same turns x (visiting calculated then) (visiting calculated then) =
+    same_let refl (same_constant refl)
+    (same_repeat_up_to (same_children same) turns
+    (same_sequence (same_assign refl (same_operation refl (same_value refl) (same_constant refl))) (same_lock (same_child refl same (same_value refl)) x same_fail)))
 
 no_action : {names : Names} {action : Action} {a : Statement} → IsAction names action a → declares action ≡ true → ⊥
 no_action (assigns g n c has) e = cc
@@ -296,10 +295,10 @@ mutual
       let index : k ≡ l = cc in
       let there : slice_get later k ≡ Some (D.Part q) = subst (λ z. slice_get later z ≡ Some (D.Part q)) (sym index) f in
       let part : AlikePart p q = parts k p q e there (record { name = refl; parameters = refl; body = given_itself g; size = refl }) in
-      let first : IsGiven (take k later) names (inside names) q.parameters.items bs.items q.body.items y =
-      subst (λ z. IsGiven (take z later) names (inside names) q.parameters.items bs.items q.body.items y) (sym index) h in
-      let second : IsGiven (take k later) names (inside names) p.parameters.items bs.items q.body.items y =
-      subst (λ z. IsGiven (take k later) names (inside names) z bs.items q.body.items y) (sym part.parameters) first in
+      let first : IsGiven (take k later) names (inside k names) q.parameters.items bs.items q.body.items y =
+      subst (λ z. IsGiven (take z later) names (inside z names) q.parameters.items bs.items q.body.items y) (sym index) h in
+      let second : IsGiven (take k later) names (inside k names) p.parameters.items bs.items q.body.items y =
+      subst (λ z. IsGiven (take k later) names (inside k names) z bs.items q.body.items y) (sym part.parameters) first in
       alike_given (taken_alike before later k parts) (paired_values same.1) part.body g second
 
   alike_given : {before later : List Declaration} {outer names : Names} {ps : List Parameter} {args bs : List TextExpression} {body other : List TextStatement} {a b : Statement} → AlikeBefore before later →

@@ -191,7 +191,7 @@ alike_update {names} {v} {w} {n} {m} {k} {l} {e} {f} x a b =
 
 alike_computed : {names : Names} {vs ws : List Write} {t : ℕ} {a b x y : Statement} → AlikeWrites vs ws → AreWritten names t vs a x → AreWritten names t ws b y → SameStatement a b → SameStatement x y
 alike_computed T.no_writes all_computed all_computed s = s
-alike_computed (T.more_writes x h) (next_computed u lt has then rest) (next_computed o below its then others) s =
+alike_computed (T.more_writes x h) (next_computed u apart lt has then rest) (next_computed o others_apart below its then others) s =
     let same = alike_update x u o in
     same_let refl same.2 (alike_computed h rest others (same_sequence s (same_write same.0 same.1 (same_value refl))))
 

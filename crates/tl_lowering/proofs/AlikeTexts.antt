@@ -41,11 +41,11 @@ alike_body : {before later : List Declaration} {names : Names} {text other : Tex
 alike_body parts s g h =
     tried_of (tried_of (alike_block parts s.body g.body_is h.body_is) (alike_block parts s.otherwise g.handler_is h.handler_is) g.handled_is h.handled_is) same_skip g.whole_is h.whole_is
 
-same_later : {names a b : Names} {name : Name} {w : ℤ} → IsWithField names name w a → IsWithField names name w b → a ≡ b
-same_later {names} {name = name} g h =
+same_later : {k : ℕ} {names a b : Names} {name : Name} {w : ℤ} → IsWithField k names name w a → IsWithField k names name w b → a ≡ b
+same_later {k} {names} {name = name} g h =
     let w = sym g.number_is ∙ h.number_is in
     let same : g.field ≡ h.field = cc in
-    g.later_is ∙ ap (with_field names name) same ∙ sym h.later_is
+    g.later_is ∙ ap (λ f. with_field names name f k) same ∙ sym h.later_is
 
 alike_procedure : {spellings : List (List ℕ)} {before later : List Declaration} {names : Names} {text other : TextProcedure} {p q : Procedure} → AlikeBefore before later → AlikeProcedure text other →
     IsProcedure spellings before names text p → IsProcedure spellings later names other q → SameProcedure p q
@@ -62,17 +62,20 @@ procedure_itself f = record { mark = refl; name = refl; arguments = refl; body =
 pub alike_procedures : {spellings : List (List ℕ)} {before later : List Declaration} {names : Names} {ds es : List Declaration} {ps qs : List Procedure} → PairedDeclarations before later →
     PairedDeclarations ds es → AreDeclared spellings before names ds ps → AreDeclared spellings later names es qs → SameProcedures ps qs
 alike_procedures parts s none_declared none_declared = no_procedures
-alike_procedures {spellings} {later = later} {names} {qs = qs} parts (paired_declaration {e = d} {es = rest} x s) (next_field {name = n} {number = v} f g) (next_field {later = now} {name = m} {number = w} k h) =
+alike_procedures {spellings} {before} {later} {names} {qs = qs} parts (paired_declaration {e = d} {es = rest} x s) (next_field {name = n} {number = v} f g) (next_field {later = now} {name = m} {number = w} k h) =
     let same = field_of x in
-    let first : IsWithField names n w now = subst (λ z. IsWithField names z w now) (sym same.0) k in
-    let other : IsWithField names n v now = subst (λ z. IsWithField names n z now) (sym same.1) first in
+    let first : IsWithField (length later) names n w now = subst (λ z. IsWithField (length later) names z w now) (sym same.0) k in
+    let here : IsWithField (length before) names n w now = subst (λ z. IsWithField z names n w now) (sym (paired_length parts)) first in
+    let other : IsWithField (length before) names n v now = subst (λ z. IsWithField (length before) names n z now) (sym same.1) here in
     alike_procedures (push_declaration x parts) s g (subst (λ n. AreDeclared spellings (later ++ d ∷ []) n rest qs) (sym (same_later f other)) h)
-alike_procedures {spellings} {later = later} {names} {qs = qs} parts (paired_declaration {e = d} {es = rest} x s) (next_constant {name = n} {number = v} f i g) (next_constant {name = m} {number = w} k j h) =
+alike_procedures {spellings} {before} {later} {names} {qs = qs} parts (paired_declaration {e = d} {es = rest} x s) (next_constant {name = n} {number = v} f i g) (next_constant {name = m} {number = w} k j h) =
     let same = constant_of x in
-    let first : AreDeclared spellings (later ++ d ∷ []) (with_constant names n w) rest qs =
-    subst (λ z. AreDeclared spellings (later ++ d ∷ []) (with_constant names z w) rest qs) (sym same.0) h in
+    let first : AreDeclared spellings (later ++ d ∷ []) (with_constant names n w (length later)) rest qs =
+    subst (λ z. AreDeclared spellings (later ++ d ∷ []) (with_constant names z w (length later)) rest qs) (sym same.0) h in
+    let here : AreDeclared spellings (later ++ d ∷ []) (with_constant names n w (length before)) rest qs =
+    subst (λ z. AreDeclared spellings (later ++ d ∷ []) (with_constant names n w z) rest qs) (sym (paired_length parts)) first in
     alike_procedures (push_declaration x parts) s g
-    (subst (λ z. AreDeclared spellings (later ++ d ∷ []) (with_constant names n z) rest qs) (sym (alike_constant same.1 i j)) first)
+    (subst (λ z. AreDeclared spellings (later ++ d ∷ []) (with_constant names n z (length before)) rest qs) (sym (alike_constant same.1 i j)) here)
 alike_procedures {spellings} {before} {later} {names} parts (paired_declaration {e = d} {es = rest} x s) (next_procedure {text = text} fresh f g) (next_procedure {text = other} {p = q} {ps = qs} again k h) =
     let same = procedure_of (procedure_itself f) x in
     let count : length later ≡ length before = sym (paired_length parts) in

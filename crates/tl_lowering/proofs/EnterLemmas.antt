@@ -15,14 +15,13 @@ use Rattle.tl_lowering.specs.declared.lowering.Entrance.TheVariants as N
 use Rattle.tl_lowering.specs.declared.naming.Locking.{Locking}
 use Rattle.tl_lowering.specs.declared.program.Condition.{Condition}
 use Rattle.tl_lowering.specs.declared.program.Expression.{Expression}
-use Rattle.tl_lowering.specs.declared.program.Place.{Place}
 use Rattle.tl_lowering.specs.declared.program.Place.TheVariants as P
 use Rattle.tl_lowering.specs.declared.loops.Visit.{Visit}
 use Rattle.tl_lowering.specs.Choosing.{IsChosen, chosen_if, chosen_lock, IsTurning, turning_times, turning_up_to}
 use Rattle.tl_lowering.specs.Drafts.{Binds, binds_value, binds_value_else, binds_nodes, Ends, none_open, last_open, Becomes, IsFinished}
-use Rattle.tl_lowering.specs.Entering.{before_of, entered_at, entered_of, is_break, before_body, before_turns, turn_descends, IsEntering, IsEnteringPlace, entered_all, AllEnterOnce, binding_entered, BindsOnce, IsEnteringBinding, EntersSoFar}
-use Rattle.tl_lowering.specs.Passing.{Before, Entered, join, behind_lock, missing, walks, registers, descends_from, before_turn, or_of, enters, some_if, or_else_of, either_entered, then_by, failing_entered, on_entered, nowhere_entered, entered, KeepsOut, EntersOnce}
-use Rattle.tl_lowering.specs.Naming.{calculated, opposite, then, IsHalved, none, one, more}
+use Rattle.tl_lowering.specs.Entering.{before_of, entered_at, entered_of, before_body, before_turns, turn_descends, IsEntering, IsEnteringPlace, entered_all, AllEnterOnce, binding_entered, BindsOnce, IsEnteringBinding, EntersSoFar}
+use Rattle.tl_lowering.specs.Passing.{Before, Entered, join, behind_lock, walks, through, registers, descends_from, before_turn, or_of, enters, some_if, or_else_of, either_entered, then_by, failing_entered, on_entered, nowhere_entered, entered, KeepsOut, EntersOnce}
+use Rattle.tl_lowering.specs.Naming.{calculated, then, IsHalved, none, one, more}
 use Rattle.tl_lowering.specs.Outcomes.{may_fail, condition_may_fail}
 use Rattle.tl_lowering.specs.Paths.{known, passed_of}
 use Rattle.tl_lowering.specs.Sets.{Nodes, holds, with_node, without_node, minus}
@@ -226,23 +225,18 @@ either_ends x y e =
     ∙ ap (λ z. record { after = z; fails = or_of x.fails y.fails; breaks = or_of x.breaks y.breaks }) (or_none x.after)
     ∙ ap₂ (λ u v. record { after = x.after; fails = u; breaks = v }) (or_comm x.fails y.fails) (or_comm x.breaks y.breaks)
 
--- where a lock failed nothing was done, except at the end of a `for each`
-no_end : (place : Place) (other : Statement) (b : Before) → is_break other ≡ false → missing place other b ≡ b
-no_end (P.Child n p e) S.Break b f = cc
-no_end place other b f = refl
-
 binds_entered : {b : Binding} {rest bound : Statement} (h : Before) → Binds b rest bound → BindsOnce b h
     → entered bound h ≡ then_by (binding_entered b h).after (binding_entered b h) (entered rest)
 binds_entered h (binds_value {e = n} {rest = rest}) once =
     ap (λ z. record { after = (entered rest h).after; fails = or_of z (entered rest h).fails; breaks = (entered rest h).breaks }) (sym (or_none (some_if (may_fail n) h)))
 binds_entered h (binds_value_else {rest = rest} {other = other}) once = either_ends (entered rest h) (entered other h) once.1
 binds_entered h (binds_nodes {place = place} {rest = rest} {other = other}) once =
-    ap (λ z. either_entered (entered rest (behind_lock place h)) (entered other z)) (no_end place other h once.3) ∙ either_ends (entered rest (behind_lock place h)) (entered other h) once.2
+    either_ends (entered rest (behind_lock place h)) (entered other h) once.2
 
 binds_once : {b : Binding} {rest bound : Statement} (h : Before) → Binds b rest bound → BindsOnce b h → IfSome (binding_entered b h).after (EntersOnce rest) → EntersOnce bound h
 binds_once h binds_value once k = k
 binds_once h binds_value_else once k = (k, once.0)
-binds_once h (binds_nodes {place = place} {other = other}) once k = (once.0, k, subst (EntersOnce other) (sym (no_end place other h once.3)) once.1)
+binds_once h (binds_nodes {place = place} {other = other}) once k = (once.0, k, once.1)
 
 nothing : (o : Option Before) → IfSome o (λ e. Unit {0})
 nothing None = tt
@@ -283,12 +277,13 @@ no_way (Some h) e = cc
 
 -- what was done after a `for each` with this turn
 walk_is : (e start left : Before) (o f b : Option Before) → join e start ≡ start
-    → ◌≡◌ {A = Entered} (record { after = or_of (or_of o None) (or_of b (Some left)); fails = or_of (Some e) (or_of (Some start) (or_of f None)); breaks = None })
+    → ◌≡◌ {A = Entered} (record { after = or_of (Some left) (or_of (or_of o None) (or_of b None)); fails = or_of (Some e) (or_of (Some start) (or_of f (Some start))); breaks = None })
     (record { after = or_of (Some left) (or_of o b); fails = or_of (Some start) f; breaks = None })
 walk_is e start left o f b within =
     ap₂ (λ x y. record { after = x; fails = y; breaks = None })
-    (ap (λ z. or_of z (or_of b (Some left))) (or_none o) ∙ sym (or_assoc o b (Some left)) ∙ or_comm (or_of o b) (Some left))
-    (ap (λ z. or_of (Some e) (or_of (Some start) z)) (or_none f) ∙ sym (or_assoc (Some e) (Some start) f) ∙ ap (λ z. or_of (Some z) f) within)
+    (ap₂ (λ y z. or_of (Some left) (or_of y z)) (or_none o) (or_none b))
+    (ap (λ z. or_of (Some e) (or_of (Some start) z)) (or_comm f (Some start)) ∙ ap (or_of (Some e)) (sym (or_assoc (Some start) (Some start) f) ∙ ap (λ z. or_of (Some z) f) (join_self start))
+    ∙ sym (or_assoc (Some e) (Some start) f) ∙ ap (λ z. or_of (Some z) f) within)
 
 pub if_entering : {e : Before} {a b s : Statement} {c : Condition} {one other flow : Flow} → IsChosen a b (N.Condition c) s → IsEntering e a one → IsEntering e b other
     → entered_of flow ≡ either_entered (either_entered (failing_entered (condition_may_fail c) e nowhere_entered) (entered_of one)) (entered_of other) → IsEntering e s flow
@@ -302,13 +297,8 @@ if_entering {e} {a} {b} (chosen_if {c = c}) x y f = record {
 }
 
 pub lock_entering : {e : Before} {a b s : Statement} (l : Locking) {one other flow : Flow} → IsChosen a b (N.Lock l) s → IsEnteringPlace e l → IsEntering (behind_lock l.place e) a one → IsEntering e b other
-    → is_break b ≡ false → entered_of flow ≡ either_entered (entered_of one) (entered_of other) → IsEntering e s flow
-lock_entering {e} {a} {b} l chosen_lock place x y block f =
-    let none : missing l.place b e ≡ e = no_end l.place b e block in
-    record {
-      once = (place.once, x.once, subst (EntersOnce b) (sym none) y.once);
-      paths = f ∙ ap₂ either_entered x.paths (y.paths ∙ ap (entered b) (sym none));
-    }
+    → entered_of flow ≡ either_entered (entered_of one) (entered_of other) → IsEntering e s flow
+lock_entering l chosen_lock place x y f = record { once = (place.once, x.once, y.once); paths = f ∙ ap₂ either_entered x.paths y.paths }
 
 pub tried_entering : {e start : Before} {a b s : Statement} {one other flow : Flow} → IsTried a b s → IsEntering e a one → start ≡ or_else_of (entered_of one).fails e → IsEntering start b other
     → entered_of flow ≡ record { after = or_of (entered_of one).after (entered_of other).after; fails = (entered_of other).fails; breaks = or_of (entered_of one).breaks (entered_of other).breaks }
@@ -333,24 +323,26 @@ keeps_out flow start held same once = subst (λ e. IfSome (entered_of flow).afte
 keeps : (e start : Before) (body : Statement) (flow : Flow) → IsEntering start body flow → KeepsOut (entered_of flow).after e → KeepsOut (entered body start).after e
 keeps e start body flow x once = subst (λ (z : Entered). KeepsOut z.after e) x.paths once
 
-pub times_entering : {e start : Before} {body whole : Statement} {flow left : Flow} {w : ℕ} → start ≡ before_turn body e → IsEntering start body flow → KeepsOut (entered_of flow).after e → walks body ≡ None
+pub times_entering : {e start : Before} {body whole : Statement} {flow left : Flow} {w : ℕ} → start ≡ before_turn body e → IsEntering start body flow → KeepsOut (entered_of flow).after e
     → IsTurning body (R.Times w) whole → entered_of left ≡ record { after = or_of (entered_of flow).after (entered_of flow).breaks; fails = (entered_of flow).fails; breaks = None } → IsEntering e whole left
-times_entering {e} {start} {body} {flow = flow} begins x once block turning_times f =
-    let here : IsEntering (before_turn body e) body flow = subst (λ b. IsEntering b body flow) begins x in
-    record {
-      once = (here.once, keeps e (before_turn body e) body flow here once, subst (λ o. IfSome o (λ n. holds e.passed n ≡ false)) (sym block) tt);
-      paths = f ∙ ap (λ (z : Entered). record { after = or_of z.after z.breaks; fails = z.fails; breaks = None }) here.paths;
-    }
-
-pub up_to_entering : {e start : Before} {body whole : Statement} {flow left : Flow} {n : Expression} {w : ℕ} → start ≡ before_turn body e → IsEntering start body flow → KeepsOut (entered_of flow).after e
-    → IsTurning body (R.UpTo n w) whole
-    → entered_of left ≡ record { after = or_of (Some e) (or_of (entered_of flow).after (entered_of flow).breaks); fails = or_of (Some e) (entered_of flow).fails; breaks = None }
-    → IsEntering e whole left
-up_to_entering {e} {start} {body} {flow = flow} begins x once turning_up_to f =
+times_entering {e} {start} {body} {flow = flow} begins x once turning_times f =
     let here : IsEntering (before_turn body e) body flow = subst (λ b. IsEntering b body flow) begins x in
     record {
       once = (here.once, keeps e (before_turn body e) body flow here once);
-      paths = f ∙ ap (λ (z : Entered). record { after = or_of (Some e) (or_of z.after z.breaks); fails = or_of (Some e) z.fails; breaks = None }) here.paths;
+      paths = f ∙ ap (λ (z : Entered). record { after = or_of z.after z.breaks; fails = z.fails; breaks = None }) here.paths;
+    }
+
+pub up_to_entering : {e start : Before} {body whole : Statement} {flow left : Flow} {n : Expression} {w : ℕ} → start ≡ before_turn body e → IsEntering start body flow → KeepsOut (entered_of flow).after e → walks body ≡ None
+    → IsTurning body (R.UpTo n w) whole
+    → entered_of left ≡ record { after = or_of (Some e) (or_of (entered_of flow).after (entered_of flow).breaks); fails = or_of (Some e) (entered_of flow).fails; breaks = None }
+    → IsEntering e whole left
+up_to_entering {e} {start} {body} {flow = flow} begins x once block turning_up_to f =
+    let here : IsEntering (before_turn body e) body flow = subst (λ b. IsEntering b body flow) begins x in
+    record {
+      once = (here.once, keeps e (before_turn body e) body flow here once, subst (λ o. IfSome o (λ n. holds e.passed n ≡ false)) (sym block) tt);
+      paths =
+          f ∙ ap (λ (z : Entered). record { after = or_of (Some e) (or_of z.after z.breaks); fails = or_of (Some e) z.fails; breaks = None }) here.paths
+          ∙ ap (λ w. let z = entered body (before_turn body e) in record { after = or_of (Some (through w e)) (or_of z.after z.breaks); fails = or_of (Some e) z.fails; breaks = None }) (sym block);
     }
 
 -- the child's register belongs to the loop itself
@@ -362,20 +354,20 @@ walk_begins e v body turn same = ap (λ z. before e.entered (minus e.passed z)) 
 
 pub walk_entering : {e start : Before} {body whole : Statement} {flow left : Flow} (v : Visit) → start ≡ before_turns (R.Children v) body e → IsEntering (before_body (R.Children v) start) body flow
     → KeepsOut (entered_of flow).after e → holds e.passed v.parent ≡ false → IsVisiting v.index v.child v.parent v.turns body whole
-    → entered_of left ≡ record { after = or_of (Some (record start { passed = with_node start.passed v.parent })) (or_of (entered_of flow).after (entered_of flow).breaks); fails = or_of (Some start) (entered_of flow).fails; breaks = None }
+    → entered_of left ≡ record { after = or_of (Some (record e { passed = with_node e.passed v.parent })) (or_of (entered_of flow).after (entered_of flow).breaks); fails = or_of (Some start) (entered_of flow).fails; breaks = None }
     → IsEntering e whole left
-walk_entering {e} {start} {body} {flow = flow} {left = left} v begins x once fresh (visiting {turn = turn} opposite calculated then then) f =
+walk_entering {e} {start} {body} {flow = flow} {left = left} v begins x once fresh (visiting {turn = turn} calculated then) f =
     let here : Before = before_turn turn e in
     let same : start ≡ here = begins ∙ walk_begins e v body turn (turn_is body v.child) in
     let inside : IsEntering (before_body (R.Children v) here) body flow = subst (λ b. IsEntering (before_body (R.Children v) b) body flow) same x in
     let y : Entered = entered body (before_body (R.Children v) here) in
     let ends : KeepsOut (or_of y.after None) e = subst (λ o. KeepsOut o e) (sym (or_none y.after)) (keeps e (before_body (R.Children v) here) body flow inside once) in
     record {
-      once = ((tt, tt), ((tt, ((λ g. absurd (not_true g)), inside.once, tt)), ends, fresh));
+      once = ((tt, ((λ g. absurd (not_true g)), inside.once, tt)), ends, fresh);
       paths =
-          f ∙ ap (λ (b : Before). record { after = or_of (Some (before b.entered (with_node b.passed v.parent))) (or_of (entered_of flow).after (entered_of flow).breaks); fails = or_of (Some b) (entered_of flow).fails; breaks = None }) same
-          ∙ ap (λ (z : Entered). record { after = or_of (Some (before here.entered (with_node here.passed v.parent))) (or_of z.after z.breaks); fails = or_of (Some here) z.fails; breaks = None }) inside.paths
-          ∙ sym (walk_is e here (before here.entered (with_node here.passed v.parent)) y.after y.fails y.breaks (begins_within e (registers (descends_from turn))));
+          f ∙ ap (λ (b : Before). record { after = or_of (Some (before e.entered (with_node e.passed v.parent))) (or_of (entered_of flow).after (entered_of flow).breaks); fails = or_of (Some b) (entered_of flow).fails; breaks = None }) same
+          ∙ ap (λ (z : Entered). record { after = or_of (Some (before e.entered (with_node e.passed v.parent))) (or_of z.after z.breaks); fails = or_of (Some here) z.fails; breaks = None }) inside.paths
+          ∙ sym (walk_is e here (before e.entered (with_node e.passed v.parent)) y.after y.fails y.breaks (begins_within e (registers (descends_from turn))));
     }
 
 pub entering_as : {e f : Before} {s : Statement} {flow other : Flow} → f ≡ e → entered_of other ≡ entered_of flow → IsEntering f s flow → IsEntering e s other
@@ -484,9 +476,9 @@ value_else_entering {e} {refusal = refusal} x ends f = record {
   paths = f ∙ ap (λ (z : Entered). record z { after = Some e }) x.paths;
 }
 
-pub nodes_entering : {e : Before} (l : Locking) {o : Statement} {refusal flow : Flow} → IsEnteringPlace e l → IsEntering e o refusal → is_break o ≡ false → known refusal.after ≡ None
+pub nodes_entering : {e : Before} (l : Locking) {o : Statement} {refusal flow : Flow} → IsEnteringPlace e l → IsEntering e o refusal → known refusal.after ≡ None
     → entered_of flow ≡ record (entered_of refusal) { after = Some (before_of l.held) } → IsEnteringBinding e (B.Nodes l.place o) flow
-nodes_entering {e} l {refusal = refusal} place x block ends f = record {
-  once = (place.once, x.once, ap (λ (z : Entered). z.after) (sym x.paths) ∙ no_way refusal.after ends, block);
+nodes_entering {e} l {refusal = refusal} place x ends f = record {
+  once = (place.once, x.once, ap (λ (z : Entered). z.after) (sym x.paths) ∙ no_way refusal.after ends);
   paths = f ∙ ap (λ h. record (entered_of refusal) { after = Some h }) place.held ∙ ap (λ (z : Entered). record z { after = Some (behind_lock l.place e) }) x.paths;
 }

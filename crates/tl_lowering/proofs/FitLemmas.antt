@@ -77,14 +77,14 @@ locking {names = names} {a = a} (pair new other room e f n has m second) x y =
     let first : names.nodes < NODE_REGISTERS = omega (arith, room) in
     record { turns = (x.turns, y.turns); slots = ((first, room), subst (AllSlots a) behind x.slots, y.slots); depth = omega (arith, x.depth, y.depth); room = ((has, second), x.room, y.room) }
 
-walk : {names : Names} (name : Name) (index : Option Name) {parent turns : ℕ} {body whole : Statement} → HasNode names → names.values + 2 ≤ VALUE_REGISTERS → 0 < turns →
+walk : {names : Names} (name : Name) (index : Option Name) {parent turns : ℕ} {body whole : Statement} → HasNode names → names.values + 3 ≤ VALUE_REGISTERS → 0 < turns →
     Fits (with_node (with_index (in_loop names) index) name) body
     → IsVisiting names.values names.nodes parent turns body whole → Fits names whole
-walk name index room has lt x (visiting opposite calculated then then) = record {
-  turns = ((tt, tt), (lt, (tt, (x.turns, tt))));
-  slots = ((tt, tt), (tt, (room, x.slots, tt)));
+walk name index room has lt x (visiting calculated then) = record {
+  turns = (lt, (tt, (x.turns, tt)));
+  slots = (tt, (room, x.slots, tt));
   depth = omega (arith, x.depth);
-  room = (((omega arith, omega arith), tt, tt), (omega arith, (omega arith, (omega arith, x.room, tt))));
+  room = (omega arith, (omega arith, omega arith, (omega arith, (omega arith, x.room, tt))));
 }
 
 -- ---- statements without blocks
@@ -117,12 +117,12 @@ record Settles (names : Names) (s : Statement) : Type 0 where
 
 computed : {names : Names} {t : ℕ} {ws : List Write} {done whole : Statement} → t ≤ VALUE_REGISTERS → AreWritten names t ws done whole → Settles names done → Fits (record names { values = t }) whole
 computed {t = t} le all_computed x = record { turns = x.turns; slots = x.slots; depth = x.depth; room = x.room t le }
-computed le (next_computed {t = t} u lt has then rest) x =
+computed le (next_computed {t = t} u apart lt has then rest) x =
     let more = computed (omega (arith, lt)) rest (record { turns = (x.turns, tt); slots = (x.slots, tt); depth = omega (arith, x.depth); room = λ d few. (x.room d few, omega (arith, few)) }) in
     record { turns = more.turns; slots = more.slots; depth = more.depth; room = (has, more.room) }
 
 first_free : {names : Names} {t : ℕ} {w : Write} {ws : List Write} {done whole : Statement} → AreWritten names t (w ∷ ws) done whole → t ≤ VALUE_REGISTERS
-first_free (next_computed u lt has then rest) = omega (arith, lt)
+first_free (next_computed u apart lt has then rest) = omega (arith, lt)
 
 written : {names : Names} {w : Write} {ws : List Write} {whole : Statement} → names.loops ≤ MAX_DEPTH → IsWritten names w ws whole → Fits names whole
 written le (one_write u has) = record { turns = tt; slots = tt; depth = omega arith; room = has }

@@ -5,19 +5,18 @@ use Rattle.tl_lowering.specs.declared.loops.Repetition.TheVariants as R
 use Rattle.tl_lowering.specs.declared.loops.Visit.{Visit}
 use Rattle.tl_lowering.specs.declared.paths.Flow.{Flow}
 use Rattle.tl_lowering.specs.declared.paths.Held.{Held}
-use Rattle.tl_lowering.specs.declared.program.Condition.{Condition}
 use Rattle.tl_lowering.specs.declared.program.Expression.{Expression}
 use Rattle.tl_lowering.specs.declared.program.Expression.TheVariants as E
 use Rattle.tl_lowering.specs.declared.program.Place.TheVariants as P
 use Rattle.tl_lowering.specs.declared.program.Statement.{Statement}
 use Rattle.tl_lowering.specs.declared.program.Statement.TheVariants as S
-use Rattle.tl_lowering.specs.Blocks.{then_of, IsPair}
-use Rattle.tl_lowering.specs.Outcomes.{may_fail, condition_may_fail, here_if, after, fails, breaks}
+use Rattle.tl_lowering.specs.Blocks.{IsPair}
+use Rattle.tl_lowering.specs.Outcomes.{may_fail, here_if, after, fails, breaks}
 use Rattle.tl_lowering.specs.Paths.{Paths, nodes_of, known, paths_of, outcomes, keeping}
 use Rattle.tl_lowering.specs.Repeating.{IsTurn, IsWalk}
 use Rattle.tl_lowering.specs.Scopes.{View, IsLowered, is_in_loop}
 use Rattle.tl_lowering.specs.Sets.{Nodes, holds, with_node, without_node, both, both_of, all_of}
-use Rattle.tl_lowering.specs.Sound.{IsReadable, IsTestable, IsWellFormed, KeepsHeld}
+use Rattle.tl_lowering.specs.Sound.{IsReadable, IsWellFormed, KeepsHeld}
 use Rattle.tl_lowering.proofs.SetLemmas.{both_without, without_with, both_of_self, both_of_comm, both_of_assoc, all_of_append}
 use Rattle.tl_lowering.proofs.PathLemmas.{keeping_after}
 
@@ -97,24 +96,20 @@ given_up h n None e f k = tt
 given_up h n (Some a) e f k =
     let w : both a (with_node h n) ≡ a = cc in sym (without_with a h n w) ∙ both_without a h n f ∙ k
 
-walk_behind : (h : Nodes) (o b : Option Nodes) → keeping h (both_of (if is_some o then Some h else None) (both_of b (Some h))) ≡ keeping h (both_of (Some h) b)
-walk_behind h None b = ap (keeping h) (both_of_comm b (Some h))
-walk_behind h (Some a) b =
-    ap (keeping h) (ap (both_of (Some h)) (both_of_comm b (Some h)) ∙ sym (both_of_assoc (Some h) (Some h) b) ∙ ap (λ z. both_of z b) (both_of_self (Some h)))
+walk_fails : (h : Nodes) (f : Option Nodes) → both_of (Some h) (both_of (Some h) (both_of f (Some h))) ≡ both_of (Some h) f
+walk_fails h f = ap (λ z. both_of (Some h) (both_of (Some h) z)) (both_of_comm f (Some h)) ∙ ap (both_of (Some h)) (twice f) ∙ twice f
+  where
+    twice : (f : Option Nodes) → both_of (Some h) (both_of (Some h) f) ≡ both_of (Some h) f
+    twice f = sym (both_of_assoc (Some h) (Some h) f) ∙ ap (λ z. both_of z f) (both_of_self (Some h))
 
-walk_fails : (h : Nodes) (f : Option Nodes) → both_of (Some h) (both_of (Some h) f) ≡ both_of (Some h) f
-walk_fails h f = sym (both_of_assoc (Some h) (Some h) f) ∙ ap (λ z. both_of z f) (both_of_self (Some h))
-
-pub walk : (p1 p2 p3 p4 p5 p6 : _) (c : _) (w : ℕ) (d m : ℕ) (h : Nodes) (in_loop : Bool) (x n parent : ℕ) (fits : Condition) (next : Expression) (body turn whole : Statement)
-    → IsPair whole (S.If' fits p1 S.Skip p2 S.Fail) (S.Let' x (E.Constant c) p3 (S.Repeat' w p4 turn))
-    → IsPair turn (S.Assign x next) (S.Lock' (P.Child n parent (E.Value x)) p5 body p6 S.Break)
-    → x ≡ d → n ≡ m → holds h n ≡ false → holds h parent ≡ true
-    → IsTestable d h fits → condition_may_fail fits ≡ false → IsReadable (d + 1) h next → may_fail next ≡ true
+pub walk : (p1 p2 p3 p4 : _) (c : _) (w : ℕ) (d m : ℕ) (h : Nodes) (in_loop : Bool) (x n parent : ℕ) (next : Expression) (body turn : Statement)
+    → IsPair turn (S.Assign x next) (S.Lock' (P.Child n parent (E.Value x)) p3 body p4 S.Fail)
+    → x ≡ d → n ≡ m → holds h n ≡ false → holds h parent ≡ true → IsReadable (d + 1) h next → may_fail next ≡ true
     → IsWellFormed body (d + 1) (m + 1) (with_node h n) true → IfSome (keeping h (after body (with_node h n))) (λ k. k ≡ h)
-    → IsWalk d m h in_loop n body whole
-walk p1 p2 p3 p4 p5 p6 c w d m h in_loop x n parent fits next body turn whole wp tp xd nm empty has testable sure readable unsure sound kept = record {
-  sound = wp.sound d m h in_loop (testable, tt, tt) (xd, tt, (subst (λ o. KeepsHeld o h) (sym turn_after) (given_up h n (after body inside) (keeping_after body inside) empty kept), turn_sound));
-  paths = wp.paths h ∙ whole_paths;
+    → IsWalk d m h in_loop n body (S.Let' x (E.Constant c) p1 (S.RepeatUpTo' (E.Children parent) w p2 turn))
+walk p1 p2 p3 p4 c w d m h in_loop x n parent next body turn tp xd nm empty has readable unsure sound kept = record {
+  sound = (xd, tt, (has, subst (λ o. KeepsHeld o h) (sym turn_after) (given_up h n (after body inside) (keeping_after body inside) empty kept), turn_sound));
+  paths = whole_paths;
 }
   where
     inside : Nodes
@@ -122,8 +117,8 @@ walk p1 p2 p3 p4 p5 p6 c w d m h in_loop x n parent fits next body turn whole wp
 
     turn_paths : outcomes turn h ≡ record {
       after = option_map (λ a. without_node a n) (both_of (after body inside) None);
-      fails = both_of (all_of (here_if (may_fail next) h)) (all_of (fails body inside ++ []));
-      breaks = all_of (breaks body inside ++ h ∷ []);
+      fails = both_of (all_of (here_if (may_fail next) h)) (all_of (fails body inside ++ h ∷ []));
+      breaks = all_of (breaks body inside ++ []);
     }
     turn_paths = tp.paths h
 
@@ -131,25 +126,21 @@ walk p1 p2 p3 p4 p5 p6 c w d m h in_loop x n parent fits next body turn whole wp
     turn_after = ap (λ (q : Paths). q.after) turn_paths
 
     turn_sound : IsWellFormed turn (d + 1) m h true
-    turn_sound = tp.sound (d + 1) m h true (below, readable) ((empty, has, below), subst (λ k. IsWellFormed body (d + 1) k inside true) (omega arith) sound, refl)
+    turn_sound = tp.sound (d + 1) m h true (below, readable) ((empty, has, below), subst (λ k. IsWellFormed body (d + 1) k inside true) (omega arith) sound, tt)
       where
         below : x < d + 1
         below = omega arith
 
-    turn_fails : all_of (fails turn h) ≡ both_of (Some h) (all_of (fails body inside))
-    turn_fails = ap (λ (q : Paths). q.fails) turn_paths ∙ ap₂ (λ b f. both_of (all_of (here_if b h)) (all_of f)) unsure (append-nil (fails body inside))
+    turn_fails : all_of (fails turn h) ≡ both_of (Some h) (both_of (all_of (fails body inside)) (Some h))
+    turn_fails = ap (λ (q : Paths). q.fails) turn_paths ∙ ap₂ (λ b f. both_of (all_of (here_if b h)) f) unsure (all_of_append (fails body inside) (h ∷ []))
 
-    turn_breaks : all_of (breaks turn h) ≡ both_of (all_of (breaks body inside)) (Some h)
-    turn_breaks = ap (λ (q : Paths). q.breaks) turn_paths ∙ all_of_append (breaks body inside) (h ∷ [])
+    turn_breaks : all_of (breaks turn h) ≡ all_of (breaks body inside)
+    turn_breaks = ap (λ (q : Paths). q.breaks) turn_paths ∙ ap all_of (append-nil (breaks body inside))
 
-    behind : keeping h (both_of (if is_some (after turn h) then Some h else None) (all_of (breaks turn h))) ≡ keeping h (both_of (Some h) (all_of (breaks body inside)))
-    behind = ap (λ z. keeping h (both_of (if is_some (after turn h) then Some h else None) z)) turn_breaks ∙ walk_behind h (after turn h) (all_of (breaks body inside))
-
-    whole_paths : then_of (outcomes (S.If' fits p1 S.Skip p2 S.Fail) h) (outcomes (S.Let' x (E.Constant c) p3 (S.Repeat' w p4 turn)))
+    whole_paths : outcomes (S.Let' x (E.Constant c) p1 (S.RepeatUpTo' (E.Children parent) w p2 turn)) h
         ≡ record { after = keeping h (both_of (Some h) (all_of (breaks body inside))); fails = both_of (Some h) (all_of (fails body inside)); breaks = None }
     whole_paths =
-        ap (λ b. record { after = keeping h (both_of (if is_some (after turn h) then Some h else None) (all_of (breaks turn h))); fails = both_of (all_of (here_if b h ++ h ∷ [])) (all_of (fails turn h)); breaks = None }) sure
-        ∙ ap₂ (λ a f. record { after = a; fails = both_of (Some h) f; breaks = None }) behind turn_fails
+        ap₂ (λ b f. record { after = keeping h (both_of (Some h) b); fails = both_of (Some h) f; breaks = None }) turn_breaks turn_fails
         ∙ ap (λ f. record { after = keeping h (both_of (Some h) (all_of (breaks body inside))); fails = f; breaks = None }) (walk_fails h (all_of (fails body inside)))
 
 -- ---- the same of what lies in boxes
@@ -164,15 +155,14 @@ pub up_to_of : {p : _} (scope : View) (held : Held) (body : Statement) (flow lef
     → paths_of left ≡ record { after = keeping (nodes_of held) turned; fails = both_of (Some (nodes_of held)) (known flow.fails); breaks = None } → IsLowered scope held (S.RepeatUpTo' x w p a) left
 up_to_of {p} scope held body flow left turned x w a e r t f l = subst (λ z. IsLowered scope held (S.RepeatUpTo' x w p z) left) (sym e) (lowered_up_to scope held body flow left turned x w r t f l)
 
-pub walk_of : (p1 p2 p3 p4 p5 p6 : _) (c : _) (w : ℕ) (d m : ℕ) (h : Nodes) (in_loop : Bool) (x n parent : ℕ) (fits : Condition) (next : Expression) (body turn whole skip fail turns inner bodied broken : Statement)
-    → IsPair whole (S.If' fits p1 skip p2 fail) (S.Let' x (E.Constant c) p3 turns) → IsPair turn (S.Assign x next) (S.Lock' (P.Child n parent (E.Value x)) p5 bodied p6 broken)
-    → skip ≡ S.Skip → fail ≡ S.Fail → turns ≡ S.Repeat' w p4 inner → inner ≡ turn → bodied ≡ body → broken ≡ S.Break
-    → x ≡ d → n ≡ m → holds h n ≡ false → holds h parent ≡ true
-    → IsTestable d h fits → condition_may_fail fits ≡ false → IsReadable (d + 1) h next → may_fail next ≡ true
+pub walk_of : (p1 p2 p3 p4 : _) (c : _) (w : ℕ) (d m : ℕ) (h : Nodes) (in_loop : Bool) (x n parent : ℕ) (next : Expression) (body turn turns inner bodied out : Statement)
+    → IsPair turn (S.Assign x next) (S.Lock' (P.Child n parent (E.Value x)) p3 bodied p4 out)
+    → turns ≡ S.RepeatUpTo' (E.Children parent) w p2 inner → inner ≡ turn → bodied ≡ body → out ≡ S.Fail
+    → x ≡ d → n ≡ m → holds h n ≡ false → holds h parent ≡ true → IsReadable (d + 1) h next → may_fail next ≡ true
     → IsWellFormed body (d + 1) (m + 1) (with_node h n) true → IfSome (keeping h (after body (with_node h n))) (λ k. k ≡ h)
-    → IsWalk d m h in_loop n body whole
-walk_of p1 p2 p3 p4 p5 p6 c w d m h in_loop x n parent fits next body turn whole skip fail turns inner bodied broken wp tp e1 e2 e3 e4 e5 e6 =
-    walk p1 p2 p3 p4 p5 p6 c w d m h in_loop x n parent fits next body turn whole
-    (subst (λ z. IsPair whole z (S.Let' x (E.Constant c) p3 (S.Repeat' w p4 turn))) (ap₂ (λ a b. S.If' fits p1 a p2 b) e1 e2)
-    (subst (λ z. IsPair whole (S.If' fits p1 skip p2 fail) z) (ap (λ r. S.Let' x (E.Constant c) p3 r) (e3 ∙ ap (λ t. S.Repeat' w p4 t) e4)) wp))
-    (subst (λ z. IsPair turn (S.Assign x next) z) (ap₂ (λ a b. S.Lock' (P.Child n parent (E.Value x)) p5 a p6 b) e5 e6) tp)
+    → IsWalk d m h in_loop n body (S.Let' x (E.Constant c) p1 turns)
+walk_of p1 p2 p3 p4 c w d m h in_loop x n parent next body turn turns inner bodied out tp e1 e2 e3 e4 xd nm empty has readable unsure sound kept =
+    subst (λ z. IsWalk d m h in_loop n body (S.Let' x (E.Constant c) p1 z)) (sym (e1 ∙ ap (λ t. S.RepeatUpTo' (E.Children parent) w p2 t) e2))
+    (walk p1 p2 p3 p4 c w d m h in_loop x n parent next body turn
+    (subst (λ z. IsPair turn (S.Assign x next) z) (ap₂ (λ a b. S.Lock' (P.Child n parent (E.Value x)) p3 a p4 b) e3 e4) tp)
+    xd nm empty has readable unsure sound kept)

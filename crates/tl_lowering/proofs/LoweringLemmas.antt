@@ -133,7 +133,7 @@ handled_lowered scope held start body handler whole flow other both l e m w p =
 
 -- ---- names
 
-same_view : (a b : List Meaning) (f g : List (Option Field)) (r s : List (Option ℕ)) (c d : List Symbol) (t u m k x y : ℕ) → a ≡ b → f ≡ g → r ≡ s → c ≡ d → t ≡ u → m ≡ k → x ≡ y
+same_view : (a b : List Meaning) (f g : List (Option (Field × ℕ))) (r s : List (Option ℕ)) (c d : List Symbol) (t u m k x y : ℕ) → a ≡ b → f ≡ g → r ≡ s → c ≡ d → t ≡ u → m ≡ k → x ≡ y
     → ◌≡◌ {A = View} (record { meanings = a; fields = f; procedures = r; local = c; values = t; nodes = m; loops = x })
     (record { meanings = b; fields = g; procedures = s; local = d; values = u; nodes = k; loops = y })
 same_view a b f g r s c d t u m k x y e i h j l o p = cc

@@ -66,9 +66,9 @@ at_most (negsuc n) t f e = absurd f
 pub counts : {names : Names} {w : ℤ} (z : ℤ) (t : ℕ) → 0 < t → FitsUnsignedBits 16 z → t ≡ nat_abs z → z ≡ w → IsCount names (F.Number w) t
 counts {names} {w} z t lt f e g = subst (λ x. IsCount names (F.Number x) t) (sym (counted z w t f e g)) (count lt (at_most z t f e))
 
-pub counts_constant : {names : Names} {name : Name} {w : ℤ} (z : ℤ) (t : ℕ) → 0 < t → FitsUnsignedBits 16 z → t ≡ nat_abs z → z ≡ w → stands_for names name ≡ M.Constant w
+pub counts_constant : {names : Names} {name : Name} {w : ℤ} {i : ℕ} (z : ℤ) (t : ℕ) → 0 < t → FitsUnsignedBits 16 z → t ≡ nat_abs z → z ≡ w → stands_for names name ≡ M.Constant w i
     → IsCount names (F.Named name) t
-counts_constant {w = w} z t lt f e g h = constant_count lt (at_most z t f e) (h ∙ ap M.Constant (counted z w t f e g))
+counts_constant {w = w} {i = i} z t lt f e g h = constant_count lt (at_most z t f e) (h ∙ ap (λ v. M.Constant v i) (counted z w t f e g))
 
 pub counts_none : (z : ℤ) (t : ℕ) → 0 < t → t ≡ nat_abs z → z ≡ pos 0 → ⊥
 counts_none z t lt e g = let zero : t ≡ 0 = e ∙ ap nat_abs g in omega arith

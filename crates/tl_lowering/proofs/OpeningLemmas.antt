@@ -1,5 +1,5 @@
 -- What a `let` or a `lock` opens, and the choice between two blocks.
-use Rattle.std.proofs.Common.{◌≡◌, ◌∙◌, ℕ, ℤ, pos, List, [], ◌∷◌, Option, None, Some, sym, ap, subst}
+use Rattle.std.proofs.Common.{◌≡◌, ◌∙◌, ℕ, pos, List, [], ◌∷◌, Option, None, Some, sym, ap, subst}
 use Rattle.std.specs.Prelude.{neg_ℤ}
 use Rattle.tl_syntax.specs.declared.parsed.Name.{Name}
 use Rattle.tl_syntax.specs.declared.parsed.Declaration.{Declaration}
@@ -12,7 +12,6 @@ use Rattle.tl_lowering.specs.declared.lowering.Entrance.TheVariants as N
 use Rattle.tl_lowering.specs.declared.program.Expression.TheVariants as E
 use Rattle.tl_lowering.specs.declared.lowering.Head.TheVariants as H
 use Rattle.tl_lowering.specs.declared.loops.Repetition.TheVariants as R
-use Rattle.tl_lowering.specs.declared.program.Condition.TheVariants as C
 use Rattle.tl_lowering.specs.declared.program.Place.TheVariants as P
 use Rattle.tl_syntax.specs.declared.operator.Operator.TheVariants as O
 use Rattle.tl_lowering.specs.declared.naming.Locking.{Locking}
@@ -22,7 +21,7 @@ use Rattle.tl_lowering.specs.declared.program.Expression.{Expression}
 use Rattle.tl_lowering.specs.declared.program.Statement.{Statement}
 use Rattle.tl_lowering.specs.declared.program.Statement.TheVariants as S
 use Rattle.tl_lowering.specs.Names.{Names, with_value, with_place}
-use Rattle.tl_lowering.specs.Naming.{IsCalculated, IsNot, IsThen, with_locking}
+use Rattle.tl_lowering.specs.Naming.{IsCalculated, IsThen, with_locking}
 use Rattle.tl_lowering.specs.Reading.{Leaves, IsVisiting, visiting, IsAtOffset, IsBlock, AreStatements, let_rest, let_else, lock_rest, lock_else}
 use Rattle.tl_lowering.specs.Drafts.{IsOpening, opening_value, opening_nodes, IsElse, no_else, one_else, other_of, Opens, opens_value, opens_value_else, opens_nodes, opens_nodes_else, Binds, binds_value, binds_value_else, binds_nodes}
 use Rattle.tl_lowering.specs.Choosing.{IsChosen, chosen_if, chosen_lock, IsTurning, turning_times, turning_up_to}
@@ -72,18 +71,16 @@ opens_rest (opens_nodes_else f h o leaves) k binds_nodes a = lock_else f h o lea
 
 -- ---- a loop over children
 
-pub visits_of : {p q r s t u : _} {index child parent turns : ℕ} {w : ℤ} {body b empty fail out turn boxed loop whole : Statement} {fits : Condition} {next : Expression}
-    → w ≡ pos turns → b ≡ body → empty ≡ S.Skip → fail ≡ S.Fail → out ≡ S.Break → boxed ≡ turn → loop ≡ S.Repeat' turns u boxed
-    → IsNot (C.Greater (E.Children parent) (E.Constant w)) fits → IsCalculated O.Add (E.Value index) (E.Constant (pos 1)) next
+pub visits_of : {p q r s : _} {index child parent turns : ℕ} {body b out turn boxed loop : Statement} {next : Expression}
+    → b ≡ body → out ≡ S.Fail → boxed ≡ turn → loop ≡ S.RepeatUpTo' (E.Children parent) turns s boxed
+    → IsCalculated O.Add (E.Value index) (E.Constant (pos 1)) next
     → IsThen (S.Assign index next) (S.Lock' (P.Child child parent (E.Value index)) p b q out) turn
-    → IsThen (S.If' fits r empty s fail) (S.Let' index (E.Constant (neg_ℤ (pos 1))) t loop) whole → IsVisiting index child parent turns body whole
-visits_of {p} {q} {r} {s} {t} {u} {index} {child} {parent} {turns} {w} {body} {b} {empty} {fail} {out} {turn} {boxed} {loop} {whole} {fits} {next} e0 e1 e2 e3 e4 e5 e6 n c i j =
-    visiting (subst (λ z. IsNot (C.Greater (E.Children parent) (E.Constant z)) fits) e0 n) c
-    (subst (λ z. IsThen (S.Assign index next) (S.Lock' (P.Child child parent (E.Value index)) p z q S.Break) turn) e1
-    (subst (λ z. IsThen (S.Assign index next) (S.Lock' (P.Child child parent (E.Value index)) p b q z) turn) e4 i))
-    (subst (λ z. IsThen (S.If' fits r S.Skip s S.Fail) (S.Let' index (E.Constant (neg_ℤ (pos 1))) t z) whole) (e6 ∙ ap (S.Repeat' turns u) e5)
-    (subst (λ z. IsThen (S.If' fits r S.Skip s z) (S.Let' index (E.Constant (neg_ℤ (pos 1))) t loop) whole) e3
-    (subst (λ z. IsThen (S.If' fits r z s fail) (S.Let' index (E.Constant (neg_ℤ (pos 1))) t loop) whole) e2 j)))
+    → IsVisiting index child parent turns body (S.Let' index (E.Constant (neg_ℤ (pos 1))) r loop)
+visits_of {p} {q} {r} {s} {index} {child} {parent} {turns} {body} {b} {out} {turn} {boxed} {loop} {next} e1 e2 e3 e4 c i =
+    subst (λ z. IsVisiting index child parent turns body (S.Let' index (E.Constant (neg_ℤ (pos 1))) r z)) (sym (e4 ∙ ap (S.RepeatUpTo' (E.Children parent) turns s) e3))
+    (visiting c
+    (subst (λ z. IsThen (S.Assign index next) (S.Lock' (P.Child child parent (E.Value index)) p z q S.Fail) turn) e1
+    (subst (λ z. IsThen (S.Assign index next) (S.Lock' (P.Child child parent (E.Value index)) p b q z) turn) e2 i)))
 
 pub turns_times : {p : _} {w : ℕ} {a body : Statement} → a ≡ body → IsTurning body (R.Times w) (S.Repeat' w p a)
 turns_times {p} {w} {a} e = subst (λ z. IsTurning z (R.Times w) (S.Repeat' w p a)) e turning_times

@@ -123,7 +123,7 @@ loop_up_to : {before : List Declaration} {names : Names} {count most : TextExpre
 loop_up_to xs l n has more c b turning_up_to = repeat_up_to xs l n has more c b
 
 loop_children : {before : List Declaration} {names : Names} {child parent : Name} {index : Option Name} {most : TextExpression} (xs : Vec TextStatement Global) {v : Visit} {a whole : Statement} → HasLoop names
-    → AreFresh names child index → HasNode names → names.values + 2 ≤ VALUE_REGISTERS → v.name ≡ child → v.index_name ≡ index → v.child ≡ names.nodes
+    → AreFresh names child index → HasNode names → names.values + 3 ≤ VALUE_REGISTERS → v.name ≡ child → v.index_name ≡ index → v.child ≡ names.nodes
     → v.index ≡ names.values → stands_for names parent ≡ M.Node v.parent → IsCount names most.form v.turns → IsBlock before (names_within names (R.Children v)) xs.items a
     → IsTurning a (R.Children v) whole → IsStatement before names (T.ForEach child index parent most xs) whole
 loop_children {before} {names} {child} {parent} {index} {most} xs {v} {a} {whole} l new room has n o c i p t b (turning_children w) =

@@ -1,4 +1,4 @@
--- A block is no end of a `for each`.
+-- A block is no turn of a `for each`.
 use Rattle.std.proofs.Common.{◌≡◌, ℕ, ◌/◌, List, [], length, Bool, true, false, None, refl}
 use Rattle.std.specs.List.{All}
 use Rattle.std.proofs.lemmas.List.Elements.{All-nil, All-cons, All-head, All-take}
@@ -6,13 +6,12 @@ use Rattle.tl_syntax.specs.declared.parsed.Declaration.{Declaration}
 use Rattle.tl_syntax.specs.declared.parsed.Statement.{Statement as TextStatement}
 use Rattle.tl_lowering.specs.declared.program.Statement.{Statement}
 use Rattle.tl_lowering.specs.declared.program.Statement.TheVariants as S
-use Rattle.tl_lowering.specs.Entering.{is_break}
 use Rattle.tl_lowering.specs.Names.{Names}
 use Rattle.tl_lowering.specs.Naming.{then, IsHalved, none, one, more}
 use Rattle.tl_lowering.specs.Passing.{walks}
 use Rattle.tl_lowering.specs.Reading.{IsAtOffset, at, IsBlock, block, AreStatements, no_more, next, let_rest, let_else, lock_rest, lock_else}
 
--- the lowering of a block is neither a bare `break` nor a part of a `for each`'s turn, since the block's statements have offsets
+-- the lowering of a block isn't a `for each`'s turn, since the block's statements have offsets
 abbrev is_put : Statement → Bool
 is_put S.Skip = true
 is_put (S.Sequence' p a q b) = is_put a
@@ -35,16 +34,9 @@ halved_put none all = refl
 halved_put (one {a}) all = All-head (λ s. is_put s ≡ true) a [] all
 halved_put (more {xs = parts} long s t then) all = halved_put s (All-take (λ z. is_put z ≡ true) (length parts / 2) parts all)
 
-no_break : (s : Statement) → is_put s ≡ true → is_break s ≡ false
-no_break S.Break e = cc
-no_break other e = refl
-
 no_walk : (s : Statement) → is_put s ≡ true → walks s ≡ None
 no_walk (S.Sequence' p (S.Assign x n) q b) e = cc
 no_walk other e = refl
-
-pub block_is_no_break : {before : List Declaration} {names : Names} {xs : List TextStatement} {s : Statement} → IsBlock before names xs s → is_break s ≡ false
-block_is_no_break {s = s} (block are halved) = no_break s (halved_put halved (are_put are))
 
 pub block_is_no_walk : {before : List Declaration} {names : Names} {xs : List TextStatement} {s : Statement} → IsBlock before names xs s → walks s ≡ None
 block_is_no_walk {s = s} (block are halved) = no_walk s (halved_put halved (are_put are))

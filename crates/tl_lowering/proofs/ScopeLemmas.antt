@@ -1,13 +1,13 @@
 -- Names that are declared and later lose their meanings.
 use Rattle.std.proofs.Common.{◌≡◌, ◌≢◌, ℕ, zero, suc, ◌+◌, ◌<◌, ◌≤◌, List, [], ◌∷◌, ◌++◌, length, length-append, take, drop, ◌⊎◌, inl, inr, refl, sym, ap, ap₂, ◌∙◌, arith, subst}
-use Rattle.std.specs.Prelude.{slice_set, get_or, map, replicate, Option}
+use Rattle.std.specs.Prelude.{slice_set, get_or, map, replicate, Option, Bool, true, false, nat_lt, if◌then◌else◌}
 use Rattle.std.proofs.lemmas.List.{drop-append-le, take-append-le, length-take, length-set, get_or-set_same, get_or-set_other, get_or_past}
 use Rattle.std.proofs.lemmas.Bool.{cases_eq, cases_lt}
 use Rattle.tl_syntax.specs.declared.token.Symbol.{Symbol}
 use Rattle.tl_instr.specs.declared.operand.Field.{Field}
 use Rattle.tl_lowering.specs.declared.scope.Meaning.{Meaning}
 use Rattle.tl_lowering.specs.declared.scope.Meaning.TheVariants as M
-use Rattle.tl_lowering.specs.Names.{Names, constant_only, inside}
+use Rattle.tl_lowering.specs.Names.{Names, constant_only, field_before, inside}
 use Rattle.tl_lowering.specs.Scopes.{View, IsBelow, AreInUse, Extends, forget}
 
 pub forget_last : (symbols : List Symbol) (s : Symbol) (ms : List Meaning) → forget (symbols ++ s ∷ []) ms ≡ forget symbols (slice_set ms s.0 M.Nothing)
@@ -57,7 +57,7 @@ pops_local k old new s e lt = sym (ap (take k) e ∙ take-append-le k new (s ∷
 
 more_below : (t u m k : ℕ) (x : Meaning) → t ≤ u → m ≤ k → IsBelow t m x → IsBelow u k x
 more_below t u m k M.Nothing a b h = tt
-more_below t u m k (M.Constant w) a b h = tt
+more_below t u m k (M.Constant w i) a b h = tt
 more_below t u m k (M.Value x) a b h = omega arith
 more_below t u m k (M.Index x) a b h = omega arith
 more_below t u m k (M.Node n) a b h = omega arith
@@ -91,8 +91,8 @@ set_in_use t u m k ms s x a b below new h = record {
     two i j n (inr a) (inl b) e f = absurd (new n i (is_x j n b f) (old i n a e))
     two i j n (inr a) (inr b) e f = h.apart i j n (old i n a e) (old j n b f)
 
-pub constant_in_use : (t m : ℕ) (ms : List Meaning) (s : ℕ) (w : _) → AreInUse t m ms → AreInUse t m (slice_set ms s (M.Constant w))
-constant_in_use t m ms s w h = set_in_use t t m m ms s (M.Constant w) (omega arith) (omega arith) tt (λ n i e f. cc) h
+pub constant_in_use : (t m : ℕ) (ms : List Meaning) (s : ℕ) (w : _) (i : ℕ) → AreInUse t m ms → AreInUse t m (slice_set ms s (M.Constant w i))
+constant_in_use t m ms s w k h = set_in_use t t m m ms s (M.Constant w k) (omega arith) (omega arith) tt (λ n i e f. cc) h
 
 pub value_in_use : (t m : ℕ) (ms : List Meaning) (s x : ℕ) → x ≡ t → AreInUse t m ms → AreInUse (t + 1) m (slice_set ms s (M.Value x))
 value_in_use t m ms s x e h = set_in_use t (t + 1) m m ms s (M.Value x) (omega arith) (omega arith) (omega arith) (λ n i e f. cc) h
@@ -111,31 +111,39 @@ alias_in_use t m ms s x lt free h =
     set_in_use t t m m ms s (M.Node x) (omega arith) (omega arith) lt (λ n i e f. let same : x ≡ n = cc in absurd (free i (f ∙ ap M.Node (sym same)))) h
 
 -- of names that stand for nodes or values none is known in a part
-pub inside_in_use : (t m i : ℕ) (ms : List Meaning) → IsBelow t m (get_or (map constant_only ms) i M.Nothing)
-inside_in_use t m i [] = tt
-inside_in_use t m zero (M.Nothing ∷ ms) = tt
-inside_in_use t m zero (M.Constant w ∷ ms) = tt
-inside_in_use t m zero (M.Value x ∷ ms) = tt
-inside_in_use t m zero (M.Index x ∷ ms) = tt
-inside_in_use t m zero (M.Node n ∷ ms) = tt
-inside_in_use t m (suc i) (x ∷ ms) = inside_in_use t m i ms
+pub inside_in_use : (k t m i : ℕ) (ms : List Meaning) → IsBelow t m (get_or (map (constant_only k) ms) i M.Nothing)
+inside_in_use k t m i [] = tt
+inside_in_use k t m zero (M.Nothing ∷ ms) = tt
+inside_in_use k t m zero (M.Constant w i ∷ ms) = by (nat_lt i k)
+  where
+    by : (b : Bool) → IsBelow t m (if b then M.Constant w i else M.Nothing)
+    by true = tt
+    by false = tt
+inside_in_use k t m zero (M.Value x ∷ ms) = tt
+inside_in_use k t m zero (M.Index x ∷ ms) = tt
+inside_in_use k t m zero (M.Node n ∷ ms) = tt
+inside_in_use k t m (suc i) (x ∷ ms) = inside_in_use k t m i ms
 
-pub inside_no_node : (n i : ℕ) (ms : List Meaning) → get_or (map constant_only ms) i M.Nothing ≢ M.Node n
-inside_no_node n i [] e = cc
-inside_no_node n zero (M.Nothing ∷ ms) e = cc
-inside_no_node n zero (M.Constant w ∷ ms) e = cc
-inside_no_node n zero (M.Value x ∷ ms) e = cc
-inside_no_node n zero (M.Index x ∷ ms) e = cc
-inside_no_node n zero (M.Node k ∷ ms) e = cc
-inside_no_node n (suc i) (x ∷ ms) e = inside_no_node n i ms e
+pub inside_no_node : (k n i : ℕ) (ms : List Meaning) → get_or (map (constant_only k) ms) i M.Nothing ≢ M.Node n
+inside_no_node k n i [] e = cc
+inside_no_node k n zero (M.Nothing ∷ ms) e = cc
+inside_no_node k n zero (M.Constant w i ∷ ms) e = by (nat_lt i k) e
+  where
+    by : (b : Bool) → (if b then M.Constant w i else M.Nothing) ≡ M.Node n → ⊥
+    by true f = cc
+    by false f = cc
+inside_no_node k n zero (M.Value x ∷ ms) e = cc
+inside_no_node k n zero (M.Index x ∷ ms) e = cc
+inside_no_node k n zero (M.Node j ∷ ms) e = cc
+inside_no_node k n (suc i) (x ∷ ms) e = inside_no_node k n i ms e
 
-pub are_inside : (t m : ℕ) (ms ns : List Meaning) → ns ≡ map constant_only ms → AreInUse t m ns
-are_inside t m ms ns e =
-    subst (AreInUse t m) (sym e) (record { below = λ i. inside_in_use t m i ms; apart = λ i j n f g. absurd (inside_no_node n i ms f) })
+pub are_inside : (k t m : ℕ) (ms ns : List Meaning) → ns ≡ map (constant_only k) ms → AreInUse t m ns
+are_inside k t m ms ns e =
+    subst (AreInUse t m) (sym e) (record { below = λ i. inside_in_use k t m i ms; apart = λ i j n f g. absurd (inside_no_node k n i ms f) })
 
-pub inside_names : (names : Names) (ms : List Meaning) (fs : List (Option Field)) (ps : List (Option ℕ)) → ms ≡ map constant_only names.meanings → fs ≡ names.fields → ps ≡ names.procedures
-    → record { meanings = ms; fields = fs; procedures = ps; values = names.values; nodes = names.nodes; loops = 0 } ≡ inside names
-inside_names names ms fs ps e f g = rw (e, f, g) refl
+pub inside_names : (k : ℕ) (names : Names) (ms : List Meaning) (fs : List (Option (Field × ℕ))) (ps : List (Option ℕ)) → ms ≡ map (constant_only k) names.meanings → fs ≡ map (field_before k) names.fields
+    → ps ≡ names.procedures → record { meanings = ms; fields = fs; procedures = ps; values = names.values; nodes = names.nodes; loops = 0 } ≡ inside k names
+inside_names k names ms fs ps e f g = rw (e, f, g) refl
 
 nothing_in : (n i : ℕ) → get_or (replicate n M.Nothing) i M.Nothing ≡ M.Nothing
 nothing_in zero i = refl

@@ -60,6 +60,9 @@ one_more {spellings} {names} xs i x rest all lt f h =
 
 module _ {spellings : List (List ℕ)} {names old : Names} (new : Names) (ps : List Procedure) (xs : List Declaration) (i : ℕ) (x : Declaration) (lt : i < length xs) (f : x ≡ get_or xs i x)
     (part : AreSoFar spellings names (take i xs) ps old) where
+  count : i ≡ length (take i xs)
+  count = omega (arith, length-take i xs)
+
   -- what is declared behind x
   behind : (d : Declaration) {now : Names} {rest : List Declaration} {more : List Procedure} → x ≡ d → new ≡ now → AreDeclared spellings (take (i + 1) xs) new rest more →
       AreDeclared spellings (take i xs ++ d ∷ []) now rest more
@@ -67,16 +70,17 @@ module _ {spellings : List (List ℕ)} {names old : Names} (new : Names) (ps : L
       subst (λ z. AreDeclared spellings (take i xs ++ z ∷ []) now rest more) e
       (subst (λ n. AreDeclared spellings (take i xs ++ x ∷ []) n rest more) g (subst (λ l. AreDeclared spellings l new rest more) (another xs i x lt f) h))
 
-  pub field_more : {name : Name} {number : ℤ} {offset : ℕ} → x ≡ D.Field name number offset → IsWithField old name number new → AreSoFar spellings names (take (i + 1) xs) ps new
+  pub field_more : {name : Name} {number : ℤ} {offset : ℕ} → x ≡ D.Field name number offset → IsWithField i old name number new → AreSoFar spellings names (take (i + 1) xs) ps new
   field_more {name} {number} {offset} e g rest more h =
+      let here : IsWithField (length (take i xs)) old name number new = subst (λ k. IsWithField k old name number new) count g in
       one_more xs i x rest (ps ++ more) lt f
-      (part (x ∷ rest) more (subst (λ d. AreDeclared spellings (take i xs) old (d ∷ rest) more) (sym e) (next_field g (behind (D.Field name number offset) e refl h))))
+      (part (x ∷ rest) more (subst (λ d. AreDeclared spellings (take i xs) old (d ∷ rest) more) (sym e) (next_field here (behind (D.Field name number offset) e refl h))))
 
-  pub constant_more : {name : Name} {value : TextExpression} {number : ℤ} → x ≡ D.Constant name value → IsNew old name → IsConstant old value.form number → new ≡ with_constant old name number
+  pub constant_more : {name : Name} {value : TextExpression} {number : ℤ} → x ≡ D.Constant name value → IsNew old name → IsConstant old value.form number → new ≡ with_constant old name number i
       → AreSoFar spellings names (take (i + 1) xs) ps new
-  constant_more {name} {value} e fresh is g rest more h =
+  constant_more {name} {value} {number} e fresh is g rest more h =
       one_more xs i x rest (ps ++ more) lt f
-      (part (x ∷ rest) more (subst (λ d. AreDeclared spellings (take i xs) old (d ∷ rest) more) (sym e) (next_constant fresh is (behind (D.Constant name value) e g h))))
+      (part (x ∷ rest) more (subst (λ d. AreDeclared spellings (take i xs) old (d ∷ rest) more) (sym e) (next_constant fresh is (behind (D.Constant name value) e (g ∙ ap (with_constant old name number) count) h))))
 
   pub procedure_more : {text : TextProcedure} {p : Procedure} (qs : List Procedure) → x ≡ D.Procedure text → index_of old text.name ≡ None
       → IsProcedure spellings (take i xs) (with_procedure old text.name (length (take i xs))) text p → new ≡ with_procedure old text.name (length (take i xs)) → qs ≡ ps ++ p ∷ []
@@ -88,7 +92,6 @@ module _ {spellings : List (List ℕ)} {names old : Names} (new : Names) (ps : L
 
   pub part_more : {p : Part} → x ≡ D.Part p → index_of old p.name ≡ None → new ≡ with_procedure old p.name i → AreSoFar spellings names (take (i + 1) xs) ps new
   part_more {p} e fresh g rest more h =
-      let count : i ≡ length (take i xs) = omega (arith, length-take i xs) in
       one_more xs i x rest (ps ++ more) lt f
       (part (x ∷ rest) more (subst (λ d. AreDeclared spellings (take i xs) old (d ∷ rest) more) (sym e) (next_part fresh (behind (D.Part p) e (g ∙ ap (with_procedure old p.name) count) h))))
 

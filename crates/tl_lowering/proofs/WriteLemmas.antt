@@ -86,7 +86,7 @@ in_register {e = e} {body = body} {whole = whole} same b = subst (λ z. Binds (B
 
 first_of : {names : Names} {t : ℕ} {w : Write} {ws : List Write} {e : Expression} {done more body whole : Statement} → IsComputed names t w e done more
     → AreWritten names (t + 1) ws more body → Binds (B.Value t e) body whole → AreWritten names t (w ∷ ws) done whole
-first_of c rest binds_value = next_computed c.update c.room c.temporaries c.behind rest
+first_of c rest binds_value = next_computed c.update c.apart c.room c.temporaries c.behind rest
 
 pub writes_more : {names : Names} {t x : ℕ} {w : Write} {ws vs : List Write} {e : Expression} {done more body whole : Statement} → x ≡ t → vs ≡ w ∷ ws → IsComputed names t w e done more
     → AreWritten names (t + 1) ws more body → Binds (B.Value x e) body whole → AreWritten names t vs done whole

@@ -53,7 +53,7 @@ pub data IsRepeated (names : Names) (count : Form) : Option Form → Repetition 
 
 -- the loop over a node's children, which uses the next node register for the child and the next value register for its index
 pub data IsVisited (names : Names) (child : Name) (index : Option Name) (parent : Name) (most : Form) : Repetition → Type 0 where
-  visited : {v : Visit} → HasLoop names → AreFresh names child index → HasNode names → names.values + 2 ≤ VALUE_REGISTERS → v.name ≡ child →
+  visited : {v : Visit} → HasLoop names → AreFresh names child index → HasNode names → names.values + 3 ≤ VALUE_REGISTERS → v.name ≡ child →
       v.index_name ≡ index → v.child ≡ names.nodes → v.index ≡ names.values → stands_for names parent ≡ M.Node v.parent → IsCount names most v.turns →
       IsVisited names child index parent most (R.Children v)
 

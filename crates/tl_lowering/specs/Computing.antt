@@ -1,5 +1,5 @@
 -- What is done once numbers are computed.
-use Rattle.std.specs.Prelude.{◌≡◌, ℕ, ◌<◌, ◌≤◌}
+use Rattle.std.specs.Prelude.{◌≡◌, ℕ, ◌<◌, ◌≤◌, false}
 use Rattle.tl_syntax.specs.declared.parsed.Write.{Write}
 use Rattle.tl_instr.specs.declared.operand.TheConstants.{VALUE_REGISTERS}
 use Rattle.tl_lowering.specs.declared.program.Expression.{Expression}
@@ -9,7 +9,7 @@ use Rattle.tl_lowering.specs.declared.program.Statement.{Statement}
 use Rattle.tl_lowering.specs.declared.program.Statement.TheVariants as S
 use Rattle.tl_lowering.specs.Entering.{before_of}
 use Rattle.tl_lowering.specs.Names.{Names}
-use Rattle.tl_lowering.specs.Naming.{IsUpdate, IsThen}
+use Rattle.tl_lowering.specs.Naming.{IsUpdate, IsThen, rewrites}
 use Rattle.tl_lowering.specs.Passing.{on_entered, entered, EntersOnce}
 use Rattle.tl_lowering.specs.Paths.{nodes_of, on, outcomes}
 use Rattle.tl_lowering.specs.Registers.{HasTemporaries}
@@ -28,6 +28,7 @@ pub record IsComputed (names : Names) (t : ℕ) (w : Write) (e : Expression) (do
   pub node : ℕ
   pub field : ℕ
   pub update : IsUpdate names w node field e
+  pub apart : rewrites done node field ≡ false
   pub room : t < VALUE_REGISTERS
   pub temporaries : HasTemporaries e t
   pub behind : IsThen done (S.Write node field (E.Value t)) more

@@ -136,5 +136,5 @@ pub record IsUsed (before : List Declaration) (names : Names) (name : Name) (arg
   pub part : Part
   pub index_is : index_of names name ≡ Some index
   pub part_is : slice_get before index ≡ Some (D.Part part)
-  pub given : IsGiven (take index before) names (inside names) part.parameters.items arguments part.body.items whole
+  pub given : IsGiven (take index before) names (inside index names) part.parameters.items arguments part.body.items whole
   pub nests : names.loops + loops whole ≤ MAX_DEPTH

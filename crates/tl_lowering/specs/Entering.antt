@@ -13,7 +13,6 @@ use Rattle.tl_lowering.specs.declared.naming.Locking.{Locking}
 use Rattle.tl_lowering.specs.declared.paths.Flow.{Flow}
 use Rattle.tl_lowering.specs.declared.paths.Held.{Held}
 use Rattle.tl_lowering.specs.declared.program.Statement.{Statement}
-use Rattle.tl_lowering.specs.declared.program.Statement.TheVariants as S
 use Rattle.tl_lowering.specs.Drafts.{Becomes}
 use Rattle.tl_lowering.specs.Outcomes.{may_fail}
 use Rattle.tl_lowering.specs.Passing.{Before, Entered, enters, behind_lock, registers, descends_from, then_by, on_entered, failing_entered, entered, EntersOnce}
@@ -60,15 +59,10 @@ binding_entered (B.Value x n) e = failing_entered (may_fail n) e (on_entered e)
 binding_entered (B.ValueElse x n o) e = record (entered o e) { after = Some e }
 binding_entered (B.Nodes place o) e = record (entered o e) { after = Some (behind_lock place e) }
 
--- whether the statement is a bare `break`, which only the lowering of `for each` contains
-abbrev pub is_break : Statement → Bool
-is_break S.Break = true
-is_break other = false
-
 abbrev pub BindsOnce : Binding → Before → Type 0
 BindsOnce (B.Value x n) e = Unit {0}
 BindsOnce (B.ValueElse x n o) e = EntersOnce o e × ((entered o e).after ≡ None)
-BindsOnce (B.Nodes place o) e = (enters place ≡ true → e.entered ≡ false) × EntersOnce o e × ((entered o e).after ≡ None) × (is_break o ≡ false)
+BindsOnce (B.Nodes place o) e = (enters place ≡ true → e.entered ≡ false) × EntersOnce o e × ((entered o e).after ≡ None)
 
 pub record IsEnteringBinding (e : Before) (b : Binding) (flow : Flow) : Type 0 where
   pub once : BindsOnce b e

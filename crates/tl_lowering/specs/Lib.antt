@@ -21,3 +21,4 @@ pub mod Repeating
 pub mod Scopes
 pub mod Sets
 pub mod Sound
+pub mod Walks

@@ -1,5 +1,5 @@
 -- The meanings of a text's names at a position.
-use Rattle.std.specs.Prelude.{◌≡◌, ◌≢◌, ℕ, ◌+◌, ◌<◌, List, [], ◌∷◌, map, Option, Some, None, slice_set, get_or, replicate, ℤ}
+use Rattle.std.specs.Prelude.{◌≡◌, ◌≢◌, ℕ, ◌+◌, ◌<◌, List, [], ◌∷◌, map, Option, Some, None, option_map, slice_set, get_or, replicate, nat_lt, if◌then◌else◌, ℤ}
 use Rattle.tl_budget.specs.declared.limits.TheConstants.{MAX_DEPTH}
 use Rattle.tl_instr.specs.declared.operand.Field.{Field}
 use Rattle.tl_instr.specs.declared.operand.TheConstants.{VALUE_REGISTERS, NODE_REGISTERS}
@@ -11,11 +11,11 @@ use Rattle.tl_syntax.specs.declared.parsed.Name.{Name}
 use Rattle.tl_syntax.specs.declared.parsed.Place.{Place}
 use Rattle.tl_syntax.specs.declared.parsed.Place.TheVariants as P
 
--- the lists have, at the index of a symbol, its meaning, its field and the index of the declaration of the procedure or the part
--- that it names; the numbers count value registers in use, node registers in use, and loops around the position
+-- the lists have, at the index of a symbol, its meaning, its field with the index of its declaration, and the index of the declaration of
+-- the procedure or the part that it names; the numbers count value registers in use, node registers in use, and loops around the position
 pub record Names : Type 0 where
   pub meanings : List Meaning
-  pub fields : List (Option Field)
+  pub fields : List (Option (Field × ℕ))
   pub procedures : List (Option ℕ)
   pub values : ℕ
   pub nodes : ℕ
@@ -50,7 +50,7 @@ abbrev pub HasLoop : Names → Type 0
 HasLoop names = names.loops < MAX_DEPTH
 
 abbrev pub field_named : Names → Name → Option Field
-field_named names name = get_or names.fields name.symbol.0 None
+field_named names name = option_map (λ f. f.0) (get_or names.fields name.symbol.0 None)
 
 -- the index of the declaration of the procedure or the part of that name
 abbrev pub index_of : Names → Name → Option ℕ
@@ -60,27 +60,32 @@ index_of names name = get_or names.procedures name.symbol.0 None
 abbrev pub with_meaning : Names → Name → Meaning → Names
 with_meaning names name m = record names { meanings = slice_set names.meanings name.symbol.0 m }
 
-abbrev pub with_constant : Names → Name → ℤ → Names
-with_constant names name number = with_meaning names name (M.Constant number)
+-- the declaration with this index makes it a constant, and below a field
+abbrev pub with_constant : Names → Name → ℤ → ℕ → Names
+with_constant names name number index = with_meaning names name (M.Constant number index)
 
-abbrev pub with_field : Names → Name → Field → Names
-with_field names name field = record names { fields = slice_set names.fields name.symbol.0 (Some field) }
+abbrev pub with_field : Names → Name → Field → ℕ → Names
+with_field names name field index = record names { fields = slice_set names.fields name.symbol.0 (Some (field, index)) }
 
 -- the name is also the name of a procedure or a part, which the declaration with this index declares
 abbrev pub with_procedure : Names → Name → ℕ → Names
 with_procedure names name index = record names { procedures = slice_set names.procedures name.symbol.0 (Some index) }
 
--- in a part of all names only constants are known
-abbrev pub constant_only : Meaning → Meaning
-constant_only M.Nothing = M.Nothing
-constant_only (M.Constant w) = M.Constant w
-constant_only (M.Value x) = M.Nothing
-constant_only (M.Index x) = M.Nothing
-constant_only (M.Node n) = M.Nothing
+-- in a part, the one that declaration k declares, only constants are known of all these names, and below only fields: those that are declared before it
+abbrev pub constant_only : ℕ → Meaning → Meaning
+constant_only k M.Nothing = M.Nothing
+constant_only k (M.Constant w i) = if nat_lt i k then M.Constant w i else M.Nothing
+constant_only k (M.Value x) = M.Nothing
+constant_only k (M.Index x) = M.Nothing
+constant_only k (M.Node n) = M.Nothing
 
--- in a part that is used where names have these meanings; its loops are counted from 0
-abbrev pub inside : Names → Names
-inside names = record names { meanings = map constant_only names.meanings; loops = 0 }
+abbrev pub field_before : ℕ → Option (Field × ℕ) → Option (Field × ℕ)
+field_before k None = None
+field_before k (Some f) = if nat_lt f.1 k then Some f else None
+
+-- in the part that declaration k declares, used where names have these meanings; its loops are counted from 0
+abbrev pub inside : ℕ → Names → Names
+inside k names = record names { meanings = map (constant_only k) names.meanings; fields = map (field_before k) names.fields; loops = 0 }
 
 -- no name denotes this node register
 abbrev pub IsUnnamed : Names → ℕ → Type 0

@@ -1,5 +1,5 @@
 -- The core forms of a text's numbers, conditions, places and actions, in which names are replaced by registers and fields.
-use Rattle.std.specs.Prelude.{◌≡◌, ◌<◌, ◌≤◌, ℕ, ◌+◌, ◌/◌, List, [], ◌∷◌, ◌++◌, length, take, drop, Bool, true, false, Option, None, Some, ℤ, pos, negsuc, ◌+ℤ◌, ◌-ℤ◌, ◌*ℤ◌, int_div, ◌^◌, nat_lt, if◌then◌else◌}
+use Rattle.std.specs.Prelude.{◌≡◌, ◌<◌, ◌≤◌, ℕ, ◌+◌, ◌/◌, List, [], ◌∷◌, ◌++◌, length, take, drop, Bool, true, false, ◌||◌, ◌&&◌, nat_eq, Option, None, Some, ℤ, pos, negsuc, ◌+ℤ◌, ◌-ℤ◌, ◌*ℤ◌, int_div, ◌^◌, nat_lt, if◌then◌else◌}
 use Rattle.std.specs.Ordering.{int_eq}
 use Rattle.std.specs.declared.vec.Vec.{Vec}
 use Rattle.std.specs.declared.boxed.Box.{Box}
@@ -44,7 +44,7 @@ pub data IsCalculated (operator : Operator) (left right : Expression) : Expressi
 
 pub data IsNumber (names : Names) : Form → Expression → Type 0 where
   number : {w : ℤ} → IsNumber names (F.Number w) (E.Constant w)
-  constant : {name : Name} {w : ℤ} → stands_for names name ≡ M.Constant w → IsNumber names (F.Named name) (E.Constant w)
+  constant : {name : Name} {w : ℤ} {i : ℕ} → stands_for names name ≡ M.Constant w i → IsNumber names (F.Named name) (E.Constant w)
   value : {name : Name} {x : ℕ} → stands_for names name ≡ M.Value x → IsNumber names (F.Named name) (E.Value x)
   index : {name : Name} {x : ℕ} → stands_for names name ≡ M.Index x → IsNumber names (F.Named name) (E.Value x)
   field : {node field : Name} {n f : ℕ} → stands_for names node ≡ M.Node n → field_named names field ≡ Some f →
@@ -71,7 +71,7 @@ folded O.Divide x y = if int_eq y (pos 0) then None else narrow (int_div x y)
 -- the number of a constant: it and each number on the way have 32 bits
 pub data IsConstant (names : Names) : Form → ℤ → Type 0 where
   written : {w : ℤ} → IsConstant names (F.Number w) w
-  known : {name : Name} {w : ℤ} → stands_for names name ≡ M.Constant w → IsConstant names (F.Named name) w
+  known : {name : Name} {w : ℤ} {i : ℕ} → stands_for names name ≡ M.Constant w i → IsConstant names (F.Named name) w
   opposed : {a : Box TextExpression Global} {v w : ℤ} → IsConstant names a.value.form v → folded O.Subtract (pos 0) v ≡ Some w → IsConstant names (F.Negated a) w
   combined : {operator : Operator} {a b : Box TextExpression Global} {u v w : ℤ} → IsConstant names a.value.form u → IsConstant names b.value.form v →
       folded operator u v ≡ Some w → IsConstant names (F.Calculated operator a b) w
@@ -79,7 +79,7 @@ pub data IsConstant (names : Names) : Form → ℤ → Type 0 where
 -- the largest number of turns of a loop, from 1 to 65,535
 pub data IsCount (names : Names) : Form → ℕ → Type 0 where
   count : {w : ℕ} → 0 < w → w ≤ 65535 → IsCount names (F.Number (pos w)) w
-  constant_count : {name : Name} {w : ℕ} → 0 < w → w ≤ 65535 → stands_for names name ≡ M.Constant (pos w) → IsCount names (F.Named name) w
+  constant_count : {name : Name} {w i : ℕ} → 0 < w → w ≤ 65535 → stands_for names name ≡ M.Constant (pos w) i → IsCount names (F.Named name) w
 
 -- ---- conditions
 
@@ -175,11 +175,17 @@ pub record IsUpdate (names : Names) (w : Write) (n k : ℕ) (new : Expression) :
   pub operand_is : IsNumber names w.value.form operand
   pub new_is : IsChanged (E.Field n k) w.change operand new
 
--- All numbers are computed, in the registers from t on, and then all fields are written: first by `done`, which writes those whose numbers were computed before.
+-- whether one of these writes is to field k of the node in register n
+abbrev pub rewrites : Statement → ℕ → ℕ → Bool
+rewrites (S.Sequence' p a q b) n k = rewrites a n k || rewrites b n k
+rewrites (S.Write m f e) n k = nat_eq m n && nat_eq f k
+rewrites s n k = false
+
+-- All numbers are computed, in the registers from t on, and then all fields are written: first by `done`, which writes those whose numbers were computed before. No field is written twice.
 pub data AreWritten (names : Names) : ℕ → List Write → Statement → Statement → Type 0 where
   all_computed : {t : ℕ} {done : Statement} → AreWritten names t [] done done
   next_computed : {t n k : ℕ} {w : Write} {ws : List Write} {e : Expression} {p : _} {done more body : Statement} → IsUpdate names w n k e →
-      t < VALUE_REGISTERS → HasTemporaries e t → IsThen done (S.Write n k (E.Value t)) more → AreWritten names (t + 1) ws more body →
+      rewrites done n k ≡ false → t < VALUE_REGISTERS → HasTemporaries e t → IsThen done (S.Write n k (E.Value t)) more → AreWritten names (t + 1) ws more body →
       AreWritten names t (w ∷ ws) done (S.Let' t e p body)
 
 -- one write, or several

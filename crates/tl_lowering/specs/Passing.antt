@@ -65,15 +65,15 @@ behind_lock (P.Node n e) b = record { entered = true; passed = without_node b.pa
 behind_lock (P.Child n p e) b = record b { passed = without_node (with_node b.passed p) n }
 behind_lock (P.Pair n k p a c) b = record b { passed = without_node (without_node (with_node b.passed p) n) k }
 
--- where a lock failed: the bare `break` is at the end of a `for each`, when no child is left
-abbrev pub missing : Place → Statement → Before → Before
-missing (P.Child n p e) S.Break b = record b { passed = with_node b.passed p }
-missing place other b = b
-
 -- the node through whose children a loop with this turn goes, if it is a `for each`
 abbrev pub walks : Statement → Option ℕ
-walks (S.Sequence' p (S.Assign x e) q (S.Lock' (P.Child n m i) r a s S.Break)) = Some m
+walks (S.Sequence' p (S.Assign x e) q (S.Lock' (P.Child n m i) r a s S.Fail)) = Some m
 walks other = None
+
+-- without a turn, a `for each` has gone through all children too, since there are none
+abbrev pub through : Option ℕ → Before → Before
+through None b = b
+through (Some n) b = record b { passed = with_node b.passed n }
 
 abbrev pub registers : (ℕ → Bool) → Nodes
 registers among = map among (range_with_len 0 NODE_REGISTERS)
@@ -140,7 +140,7 @@ entered S.Fail e = record nowhere_entered { fails = Some e }
 entered (S.If' c p a q b) e = failing_entered (condition_may_fail c) e (either_entered (entered a e) (entered b e))
 entered (S.Let' v x p a) e = failing_entered (may_fail x) e (entered a e)
 entered (S.LetElse' v x p a q o) e = either_entered (entered a e) (entered o e)
-entered (S.Lock' place p a q o) e = either_entered (entered a (behind_lock place e)) (entered o (missing place o e))
+entered (S.Lock' place p a q o) e = either_entered (entered a (behind_lock place e)) (entered o e)
 entered (S.Try' p a q b) e =
     let x = entered a e in
     let y = entered b (or_else_of x.fails e) in
@@ -148,7 +148,7 @@ entered (S.Try' p a q b) e =
 entered (S.Repeat' w p a) e = let x = entered a (before_turn a e) in record { after = or_of x.after x.breaks; fails = x.fails; breaks = None }
 entered (S.RepeatUpTo' n w p a) e =
     let x = entered a (before_turn a e) in
-    record { after = or_of (Some e) (or_of x.after x.breaks); fails = or_of (Some e) x.fails; breaks = None }
+    record { after = or_of (Some (through (walks a) e)) (or_of x.after x.breaks); fails = or_of (Some e) x.fails; breaks = None }
 entered (S.At' offset p a) e = entered a e
 
 -- a turn that reaches its end hasn't entered the tree
@@ -172,9 +172,9 @@ EntersOnce S.Fail e = Unit {0}
 EntersOnce (S.If' c p a q b) e = EntersOnce a e × EntersOnce b e
 EntersOnce (S.Let' v x p a) e = EntersOnce a e
 EntersOnce (S.LetElse' v x p a q o) e = EntersOnce a e × EntersOnce o e
-EntersOnce (S.Lock' place p a q o) e = (enters place ≡ true → e.entered ≡ false) × EntersOnce a (behind_lock place e) × EntersOnce o (missing place o e)
+EntersOnce (S.Lock' place p a q o) e = (enters place ≡ true → e.entered ≡ false) × EntersOnce a (behind_lock place e) × EntersOnce o e
 EntersOnce (S.Try' p a q b) e = EntersOnce a e × EntersOnce b (or_else_of (entered a e).fails e)
-EntersOnce (S.Repeat' w p a) e =
+EntersOnce (S.Repeat' w p a) e = let start = before_turn a e in EntersOnce a start × KeepsOut (entered a start).after e
+EntersOnce (S.RepeatUpTo' n w p a) e =
     let start = before_turn a e in EntersOnce a start × KeepsOut (entered a start).after e × IfSome (walks a) (λ n. holds e.passed n ≡ false)
-EntersOnce (S.RepeatUpTo' n w p a) e = let start = before_turn a e in EntersOnce a start × KeepsOut (entered a start).after e
 EntersOnce (S.At' offset p a) e = EntersOnce a e

@@ -26,7 +26,6 @@ use Rattle.tl_instr.specs.declared.operand.TheConstants.{VALUE_REGISTERS}
 use Rattle.tl_lowering.specs.declared.program.Expression.{Expression}
 use Rattle.tl_lowering.specs.declared.program.Expression.TheVariants as E
 use Rattle.tl_lowering.specs.declared.program.Condition.{Condition}
-use Rattle.tl_lowering.specs.declared.program.Condition.TheVariants as C
 use Rattle.tl_lowering.specs.declared.program.Place.{Place}
 use Rattle.tl_lowering.specs.declared.program.Place.TheVariants as P
 use Rattle.tl_lowering.specs.declared.program.Statement.{Statement}
@@ -40,7 +39,7 @@ use Rattle.tl_lowering.specs.Outcomes.{after}
 use Rattle.tl_lowering.specs.Sets.{Nodes}
 use Rattle.tl_lowering.specs.Registers.{behind, HasTemporaries, HasRegisters}
 use Rattle.tl_lowering.specs.Names.{Names, without_meaning, stands_for, IsNew, HasNode, HasValue, HasLoop, in_loop, with_constant, with_field, index_of, inside, with_procedure, with_index, with_value, with_values, AreNew, AreFresh, field_named, with_node, with_place}
-use Rattle.tl_lowering.specs.Naming.{IsCalculated, IsNumber, IsConstant, IsCount, IsNot, IsCondition, IsPlace, IsAction, IsThen, IsHalved}
+use Rattle.tl_lowering.specs.Naming.{IsCalculated, IsNumber, IsConstant, IsCount, IsCondition, IsPlace, IsAction, IsThen, IsHalved}
 
 -- a statement with its offset in the text
 pub data IsAtOffset (offset : ℕ) (a : Statement) : Statement → Type 0 where
@@ -54,14 +53,12 @@ pub data IsTried (body handler : Statement) : Statement → Type 0 where
 abbrev pub Leaves : Statement → Type 0
 Leaves s = (held : Nodes) → after s held ≡ None
 
--- fails if there are more children than turns; otherwise locks the children one after another until none is left
+-- As many turns as the node has children, each of which locks the next child. It fails if there are more children than turns, and where a child can't be locked.
 pub data IsVisiting (index child parent turns : ℕ) (body : Statement) : Statement → Type 0 where
-  visiting : {p q r s t u : _} {fits : Condition} {next : Expression} {turn whole : Statement} →
-      IsNot (C.Greater (E.Children parent) (E.Constant (pos turns))) fits →
+  visiting : {p q r s : _} {next : Expression} {turn : Statement} →
       IsCalculated O.Add (E.Value index) (E.Constant (pos 1)) next →
-      IsThen (S.Assign index next) (S.Lock' (P.Child child parent (E.Value index)) p body q S.Break) turn →
-      IsThen (S.If' fits r S.Skip s S.Fail) (S.Let' index (E.Constant (neg_ℤ (pos 1))) t (S.Repeat' turns u turn)) whole →
-      IsVisiting index child parent turns body whole
+      IsThen (S.Assign index next) (S.Lock' (P.Child child parent (E.Value index)) p body q S.Fail) turn →
+      IsVisiting index child parent turns body (S.Let' index (E.Constant (neg_ℤ (pos 1))) r (S.RepeatUpTo' (E.Children parent) turns s turn))
 
 mutual
   pub data IsBlock : List Declaration → Names → List TextStatement → Statement → Type 0 where
@@ -115,7 +112,7 @@ mutual
         IsStatement before names (T.Repeat number (Some most) xs) (S.RepeatUpTo' e turns p a)
     -- the child's index is in the next value register, whether it has a name or not
     for_each : {before : List Declaration} {names : Names} {child parent : Name} {index : Option Name} {most : TextExpression} (xs : Vec TextStatement Global) {n turns : ℕ}
-        {a whole : Statement} → HasLoop names → AreFresh names child index → HasNode names → names.values + 2 ≤ VALUE_REGISTERS → stands_for names parent ≡ M.Node n →
+        {a whole : Statement} → HasLoop names → AreFresh names child index → HasNode names → names.values + 3 ≤ VALUE_REGISTERS → stands_for names parent ≡ M.Node n →
         IsCount names most.form turns → IsBlock before (with_node (with_index (in_loop names) index) child) xs.items a → IsVisiting names.values names.nodes n turns a whole →
         IsStatement before names (T.ForEach child index parent most xs) whole
     block_alone : {before : List Declaration} {names : Names} (xs : Vec TextStatement Global) {a : Statement} → IsBlock before names xs.items a → IsStatement before names (T.Block xs) a
@@ -123,10 +120,10 @@ mutual
   -- an action that declares nothing, where a part is expanded
   pub data IsActed : List Declaration → Names → Action → Statement → Type 0 where
     plain : {before : List Declaration} {names : Names} {action : Action} {a : Statement} → IsAction names action a → IsActed before names action a
-    -- the part's body knows the declarations before the part; its loops nest in those around its use
+    -- the part's body knows the declarations before the part, and no others; its loops nest in those around its use
     used : {before : List Declaration} {names : Names} {name : Name} (arguments : Vec TextExpression Global) {k : ℕ} {p : Part} {a : Statement} →
         index_of names name ≡ Some k → slice_get before k ≡ Some (D.Part p) →
-        IsGiven (take k before) names (inside names) p.parameters.items arguments.items p.body.items a → names.loops + loops a ≤ MAX_DEPTH →
+        IsGiven (take k before) names (inside k names) p.parameters.items arguments.items p.body.items a → names.loops + loops a ≤ MAX_DEPTH →
         IsActed before names (A.Use name arguments) a
 
   -- the body of a part, with what is given for each of its names: a node, or a number in a `let`
@@ -161,23 +158,23 @@ pub record IsProcedure (spellings : List (List ℕ)) (before : List Declaration)
   pub arguments : AreNew names text.arguments.items
   pub body : IsBody before (with_values names text.arguments.items) text procedure.body
 
--- the name, which isn't yet that of a field, becomes the name of the field with this number, from 0 to 7
-pub record IsWithField (names : Names) (name : Name) (number : ℤ) (later : Names) : Type 0 where
+-- the name, which isn't yet that of a field, becomes the name of the field with this number, from 0 to 7, by the declaration with this index
+pub record IsWithField (index : ℕ) (names : Names) (name : Name) (number : ℤ) (later : Names) : Type 0 where
   pub fresh : field_named names name ≡ None
   pub field : Field
   pub fits : field ≤ 7
   pub number_is : number ≡ pos field
-  pub later_is : later ≡ with_field names name field
+  pub later_is : later ≡ with_field names name field index
 
 -- the procedures among these declarations, which stand behind others
 pub data AreDeclared (spellings : List (List ℕ)) : List Declaration → Names → List Declaration → List Procedure → Type 0 where
   none_declared : {before : List Declaration} {names : Names} → AreDeclared spellings before names [] []
   next_field : {before : List Declaration} {names later : Names} {name : Name} {number : ℤ} {offset : ℕ} {rest : List Declaration} {ps : List Procedure} →
-      IsWithField names name number later → AreDeclared spellings (before ++ D.Field name number offset ∷ []) later rest ps →
+      IsWithField (length before) names name number later → AreDeclared spellings (before ++ D.Field name number offset ∷ []) later rest ps →
       AreDeclared spellings before names (D.Field name number offset ∷ rest) ps
   next_constant : {before : List Declaration} {names : Names} {name : Name} {value : TextExpression} {number : ℤ} {rest : List Declaration} {ps : List Procedure} →
       IsNew names name → IsConstant names value.form number →
-      AreDeclared spellings (before ++ D.Constant name value ∷ []) (with_constant names name number) rest ps →
+      AreDeclared spellings (before ++ D.Constant name value ∷ []) (with_constant names name number (length before)) rest ps →
       AreDeclared spellings before names (D.Constant name value ∷ rest) ps
   -- no other procedure and no part has its name
   next_procedure : {before : List Declaration} {names : Names} {text : TextProcedure} {p : Procedure} {rest : List Declaration} {ps : List Procedure} →

@@ -20,7 +20,7 @@ pub record IsVisit (scope : View) (held : Held) (v : Visit) : Type 0 where
   pub index_name : IfSome v.index_name (λ n. (meaning_of scope n.symbol ≡ M.Nothing) × (n.symbol.0 ≢ v.name.symbol.0))
   pub child : v.child ≡ scope.nodes
   pub index : v.index ≡ scope.values
-  pub room : scope.values + 2 ≤ VALUE_REGISTERS
+  pub room : scope.values + 3 ≤ VALUE_REGISTERS
   pub parent : holds (nodes_of held) v.parent ≡ true
 
 abbrev pub IsRepetition : View → Held → Repetition → Type 0
@@ -61,7 +61,7 @@ pub record IsTurn (d m : ℕ) (held : Nodes) (repetition : Repetition) (body : S
   pub turn : IsBody d m held repetition body
   pub paths : paths_of flow ≡ record (outcomes body (begun repetition held)) { after = keeping held (after body (begun repetition held)) }
 
--- a loop over all children: it may end at a `break` or after the last child, and it fails if there are too many
+-- a loop over all children: it may end at a `break` or after the last child, and it may fail before each turn
 pub record IsWalk (d m : ℕ) (held : Nodes) (in_loop : Bool) (child : ℕ) (body whole : Statement) : Type 0 where
   pub sound : IsWellFormed whole d m held in_loop
   pub paths : outcomes whole held ≡ record {

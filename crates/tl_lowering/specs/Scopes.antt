@@ -15,7 +15,7 @@ use Rattle.tl_lowering.specs.Sound.{IsWellFormed}
 -- a value's register is below t, and a node's is below m
 abbrev pub IsBelow : ℕ → ℕ → Meaning → Type 0
 IsBelow t m M.Nothing = Unit {0}
-IsBelow t m (M.Constant w) = Unit {0}
+IsBelow t m (M.Constant w i) = Unit {0}
 IsBelow t m (M.Value x) = x < t
 IsBelow t m (M.Index x) = x < t
 IsBelow t m (M.Node n) = n < m
@@ -23,7 +23,7 @@ IsBelow t m (M.Node n) = n < m
 -- the register of the node that a name denotes, if it denotes a node
 abbrev pub node_in : Meaning → Option ℕ
 node_in M.Nothing = None
-node_in (M.Constant w) = None
+node_in (M.Constant w i) = None
 node_in (M.Value x) = None
 node_in (M.Index x) = None
 node_in (M.Node n) = Some n
@@ -31,7 +31,7 @@ node_in (M.Node n) = Some n
 -- a scope by value
 pub record View : Type 0 where
   pub meanings : List Meaning
-  pub fields : List (Option Field)
+  pub fields : List (Option (Field × ℕ))
   pub procedures : List (Option ℕ)
   pub local : List Symbol
   pub values : ℕ

@@ -2,10 +2,11 @@
 
 ghost use Rattle.std.specs.Prelude.{◌≡◌, ◌||◌, true, false, OnOk};
 ghost use Rattle.std.specs.Option.{unwrap_or};
-ghost use Rattle.tl_lowering.specs.Atomic.{or_of, on as on_path, failing_if as failing_there, either as either_of, then_by, behind_turns, written as written_lem, IsAtomic};
+ghost use Rattle.tl_lowering.specs.Atomic.{or_of, on as on_path, failing_if as failing_there, either as either_of, then_by, behind_turns, written as written_lem, body_written as body_written_lem, IsAtomic};
 
 use crate::program::Statement;
 use crate::values::{condition_may_fail, may_fail};
+use crate::walks::is_walk;
 use tl_syntax::{SyntaxFault, Wrong};
 
 /// Whether a field may have been written on a path to each place to which a statement leads: on, to the handler of a failure, and
@@ -93,6 +94,7 @@ fn before_turn(first: Ways, before: bool) -> bool
 }
 
 /// Where the paths through a statement lead. `before` says whether a field may have been written before it.
+#[cycle(written)]
 pub fn written(statement: &Statement, before: bool) -> Ways
     ensures { result ≡ written_lem statement.now before }
 {
@@ -127,8 +129,14 @@ pub fn written(statement: &Statement, before: bool) -> Ways
             let ways = written(first, before).or(written(second, before));
             ways.failing_if(condition_may_fail(condition), before)
         }
-        Statement::Let(_, number, body) => {
-            written(body, before).failing_if(may_fail(number), before)
+        Statement::Let(register, number, body) => {
+            let ways = if is_walk(*register, number, body) {
+                let start = before_turn(body_written(body, before), before);
+                body_written(body, start).turned(true, before)
+            } else {
+                written(body, before)
+            };
+            ways.failing_if(may_fail(number), before)
         }
         Statement::LetElse(_, _, body, otherwise) | Statement::Lock(_, body, otherwise) => {
             written(body, before).or(written(otherwise, before))
@@ -153,7 +161,27 @@ pub fn written(statement: &Statement, before: bool) -> Ways
     }
 }
 
-// The offset of the first statement in it whose failure may follow a write and isn't handled. None if it has no offset.
+// The same of the body of a loop over children, which stands behind the lock of each turn.
+#[cycle(written)]
+fn body_written(statement: &Statement, before: bool) -> Ways
+    ensures { result ≡ body_written_lem statement.now before }
+{
+    match statement {
+        Statement::RepeatUpTo(_, _, turn) => body_written(turn, before),
+        Statement::Sequence(_, lock) => body_written(lock, before),
+        Statement::Lock(_, body, _) => written(body, before),
+        _ => Ways::NOWHERE,
+    }
+}
+
+// Whether a lock's `else` leaves the block, as that of a declaration does, which stands in the text before the rest of the block.
+fn leaves(otherwise: &Statement) -> bool {
+    written(otherwise, false).after.is_none()
+}
+
+// The offset of the first statement in it whose failure may follow a write and isn't handled. None if that is a failure of its own,
+// or has no offset.
+#[cycle(late)]
 fn late_failure(statement: &Statement, before: bool) -> Option<usize> {
     match statement {
         Statement::At(offset, inner) => {
@@ -166,18 +194,62 @@ fn late_failure(statement: &Statement, before: bool) -> Option<usize> {
             Some(offset) => Some(offset),
             None => late_failure(second, written(first, before).after?),
         },
-        Statement::If(_, first, second)
-        | Statement::LetElse(_, _, first, second)
-        | Statement::Lock(_, first, second) => {
+        Statement::If(condition, first, second) => {
+            if before && condition_may_fail(condition) {
+                return None;
+            }
             late_failure(first, before).or(late_failure(second, before))
         }
-        Statement::Let(_, _, body) => late_failure(body, before),
+        Statement::LetElse(_, _, body, otherwise) => {
+            late_failure(otherwise, before).or(late_failure(body, before))
+        }
+        Statement::Lock(_, body, otherwise) => {
+            if before && matches!(**otherwise, Statement::Fail) {
+                return None;
+            }
+            if leaves(otherwise) {
+                late_failure(otherwise, before).or(late_failure(body, before))
+            } else {
+                late_failure(body, before).or(late_failure(otherwise, before))
+            }
+        }
+        Statement::Let(register, number, body) => {
+            if before && may_fail(number) {
+                return None;
+            }
+            if is_walk(*register, number, body) {
+                return late_in_body(body, before);
+            }
+            late_failure(body, before)
+        }
         Statement::Try(body, handler) => {
             late_failure(handler, written(body, before).fails.unwrap_or(before))
         }
-        Statement::Repeat(_, body) | Statement::RepeatUpTo(_, _, body) => {
+        Statement::Repeat(_, body) => {
             late_failure(body, before_turn(written(body, before), before))
         }
+        Statement::RepeatUpTo(_, _, body) => {
+            if before {
+                return None;
+            }
+            late_failure(body, before_turn(written(body, before), before))
+        }
+        _ => None,
+    }
+}
+
+// The same of a loop over children. None too if the loop fails before its first turn.
+#[cycle(late)]
+fn late_in_body(statement: &Statement, before: bool) -> Option<usize> {
+    match statement {
+        Statement::RepeatUpTo(_, _, turn) => {
+            if before {
+                return None;
+            }
+            late_in_body(turn, before_turn(body_written(turn, before), before))
+        }
+        Statement::Sequence(_, lock) => late_in_body(lock, before),
+        Statement::Lock(_, body, _) => late_failure(body, before),
         _ => None,
     }
 }

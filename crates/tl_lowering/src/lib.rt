@@ -13,6 +13,7 @@ mod program;
 mod reader;
 mod scope;
 mod values;
+mod walks;
 
 pub use program::{Condition, Expression, Place, Procedure, Program, Statement};
 pub use reader::read;

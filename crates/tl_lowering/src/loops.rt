@@ -16,8 +16,8 @@ ghost use Rattle.tl_lowering.specs.Scopes.{View, view_of, meaning_of, IsInUse, I
 
 use crate::lowering::{Lowered, Lowering};
 use crate::paths::{Flow, Held, join};
-use crate::program::{Condition, Expression, Place, Statement};
-use crate::values::{behind, calculated, check_registers, negated};
+use crate::program::{Expression, Place, Statement};
+use crate::values::{behind, calculated, check_registers};
 use tl_budget::MAX_DEPTH;
 use tl_instr::{NodeRegister, ValueRegister};
 use tl_syntax::parsed::{self, Name};
@@ -128,7 +128,7 @@ impl Lowering {
         self.check_names(name, index_name)?;
         let child = self.scope.next_node(0, name.offset)?;
         let index = self.scope.next_value(name.offset)?;
-        check_registers(usize::from(self.scope.values) + 2, name.offset)?;
+        check_registers(usize::from(self.scope.values) + 3, name.offset)?;
         let owner = self.scope.node(parent, held)?;
         if held.has_visited(owner) {
             return Err(SyntaxFault::at(Wrong::NoTurn, parent.offset));
@@ -218,23 +218,18 @@ impl Lowering {
             }
             Repetition::Children(visit) => {
                 let whole = self.visiting(visit, body)?;
-                let after = join(Some(start.visiting(visit.parent)), turned);
+                let after = join(Some(held.visiting(visit.parent)), turned);
                 Ok((whole, leaving(after, join(Some(start), flow.fails), held)))
             }
         }
     }
 
-    // The children are counted first; if there are too many, the loop fails. Then they are locked one after another until none is
-    // left.
+    // The children are counted first; if there are too many, the loop fails. Then each turn locks the next one, and fails where that
+    // one was passed.
     fn visiting(&self, visit: Visit, body: Statement) -> Result<Statement, SyntaxFault>
         ensures named { IfOk result (IsVisiting visit.index visit.child visit.parent visit.turns body) }
         ensures walk { (held : Held) (in_loop : Bool) → IsAt (view_of self.now.scope) held → IsVisit (view_of self.now.scope) held visit → IsBody self.now.scope.values self.now.scope.nodes (nodes_of held) (Repetition.Children visit) body → IfOk result (λ s. IsWalk self.now.scope.values self.now.scope.nodes (nodes_of held) in_loop visit.child body s) }
     {
-        let most = Expression::Constant(i32::from(visit.turns));
-        let many = Condition::Greater(Expression::Children(visit.parent), most);
-        let fits = negated(self.alloc, many)?;
-        let skip = self.boxed(Statement::Skip)?;
-        let check = Statement::If(fits, skip, self.boxed(Statement::Fail)?);
         let next = calculated(
             self.alloc,
             Operator::Add,
@@ -243,10 +238,10 @@ impl Lowering {
         )?;
         let place = Place::Child(visit.child, visit.parent, Expression::Value(visit.index));
         let body = self.boxed(body)?;
-        let lock = Statement::Lock(place, body, self.boxed(Statement::Break)?);
+        let lock = Statement::Lock(place, body, self.boxed(Statement::Fail)?);
         let turn = self.then(Statement::Assign(visit.index, next), lock)?;
-        let turns = self.boxed(Statement::Repeat(visit.turns, self.boxed(turn)?))?;
-        let walk = Statement::Let(visit.index, Expression::Constant(-1), turns);
-        self.then(check, walk)
+        let count = Expression::Children(visit.parent);
+        let turns = Statement::RepeatUpTo(count, visit.turns, self.boxed(turn)?);
+        Ok(Statement::Let(visit.index, Expression::Constant(-1), self.boxed(turns)?))
     }
 }

@@ -6,7 +6,7 @@ ghost use Rattle.tl_budget.specs.declared.limits.TheConstants.{MAX_DEPTH};
 ghost use Rattle.tl_lowering.specs.Blocks.{IsSequence, IsSame, IsPair, IsAttempt, IsBinding, IsClosing, Closes, IsWellFormedAt, AreAlike, AreFree, Standing, then_of, binding_paths, values_with, nodes_with};
 ghost use Rattle.tl_lowering.specs.Choosing.{IsEntered, names_behind, names_within, IsChosen, IsLoop};
 ghost use Rattle.tl_lowering.specs.Drafts.{opens, IsOpening, IsHeadOf, IsElse, IsElseOf, other_of, Opens, Binds, Encloses, Becomes, IsFinished, MayFollow, IsExtended, IsHandled};
-ghost use Rattle.tl_lowering.specs.Entering.{before_of, before_body, entered_of, is_break, IsEntering, IsEnteringHead, IsEnteringBinding, IsEnteringEntrance, entrance_entered, EntersSoFar};
+ghost use Rattle.tl_lowering.specs.Entering.{before_of, before_body, entered_of, IsEntering, IsEnteringHead, IsEnteringBinding, IsEnteringEntrance, entrance_entered, EntersSoFar};
 ghost use Rattle.tl_lowering.specs.Passing.{Before, Entered, then_by, KeepsOut};
 ghost use Rattle.tl_lowering.specs.Names.{names_of};
 ghost use Rattle.tl_lowering.specs.Naming.{IsThen, IsHalved, declares};
@@ -24,6 +24,7 @@ ghost use Rattle.tl_syntax.specs.declared.parsed.StatementForm.{StatementForm as
 use crate::descents::passed_down;
 use crate::loops::Repetition;
 use crate::naming::{Locking, asked};
+use crate::parts::MAX_BLOCKS;
 use crate::paths::{Flow, Held};
 use crate::program::{Condition, Expression, Place, Statement};
 use crate::scope::Scope;
@@ -46,6 +47,10 @@ pub struct Lowering {
     pub part_size: usize,
     /// How many parts are around the place.
     pub part_depth: u8,
+    /// How many blocks are around the place.
+    pub level: usize,
+    /// How many statements may still be read, each counted as often as blocks are around it.
+    pub work: usize,
 }
 
 // What a `let` or a `lock` declares for the rest of its block.
@@ -91,7 +96,6 @@ fn refused(otherwise: Option<Lowered>, held: Held) -> Lowered
     ensures named { result.0 ≡ other_of otherwise }
     ensures refusal { (scope : View) → IfSome otherwise (λ l. IsRefusal scope held l.0 l.1) → IsRefusal scope held result.0 result.1 }
     ensures entering { IfSome otherwise (λ l. IsEntering (before_of held) l.0 l.1) → IsEntering (before_of held) result.0 result.1 }
-    ensures block { IfSome otherwise (λ l. is_break l.0 ≡ false) → is_break result.0 ≡ false }
 {
     match otherwise {
         None => (Statement::Fail, Flow::NOWHERE.failing(held)),
@@ -213,6 +217,24 @@ impl Lowering {
         Ok(whole)
     }
 
+    // How many statements may still be read behind those of a block. 274 in too many blocks, 294 if they become too many.
+    fn work_behind(&self, statements: &[parsed::Statement]) -> Result<usize, SyntaxFault> {
+        let Some(first) = statements.first() else {
+            return Ok(self.work);
+        };
+        if self.level >= MAX_BLOCKS {
+            return Err(SyntaxFault::at(Wrong::Blocks, first.offset));
+        }
+        let around = self.level.saturating_add(1);
+        match self
+            .work
+            .checked_sub(statements.len().saturating_mul(around))
+        {
+            Some(left) => Ok(left),
+            None => Err(SyntaxFault::at(Wrong::Statements, first.offset)),
+        }
+    }
+
     /// A block. `held` holds where it begins.
     #[cycle(lowering)]
     pub fn block(
@@ -227,6 +249,8 @@ impl Lowering {
         ensures lowered { IfOk result (λ l. IsLowered (view_of self.old.scope) held l.0 l.1) }
         ensures entering { IfOk result (λ l. IsEntering (before_of held) l.0 l.1) }
     {
+        self.work = self.work_behind(statements)?;
+        self.level = self.level.saturating_add(1);
         let mark = self.scope.mark();
         let mut draft = Draft {
             opened: Vec::new(self.alloc),
@@ -241,6 +265,7 @@ impl Lowering {
             draft.flow = draft.flow.then(flow);
         }
         self.scope.return_to(mark);
+        self.level = self.level.saturating_sub(1);
         let flow = draft.flow.keeping(held.nodes);
         Ok((self.finished(draft)?, flow))
     }
@@ -277,7 +302,6 @@ impl Lowering {
         requires otherwise { IfSome otherwise (λ l. IsRefusal (view_of self.old.scope) held l.0 l.1) }
         requires entering { IsEnteringHead (before_of held) head }
         requires refused { IfSome otherwise (λ l. IsEntering (before_of held) l.0 l.1) }
-        requires block { IfSome otherwise (λ l. is_break l.0 ≡ false) }
         ensures named { (before : List TextDeclaration) (form : TextForm) → IsOpening (names_of self.old.scope) form head → IsElse before (names_of self.old.scope) form otherwise → IfOk result (λ b. Opens before (names_of self.old.scope) form b.0 (names_of self.new.scope)) }
         ensures binding { IfOk result (λ b. IsBinding b.0 self.old.scope.values self.old.scope.nodes (nodes_of held) (is_in_loop (view_of self.old.scope))) }
         ensures paths { IfOk result (λ b. paths_of b.1 ≡ binding_paths b.0 (nodes_of held)) }
@@ -320,7 +344,6 @@ impl Lowering {
         ensures named { IfOk result (IsElseOf before.now (names_of self.old.scope) form.now) }
         ensures refusal { IfOk result (λ o. IfSome o (λ l. IsRefusal (view_of self.old.scope) held l.0 l.1)) }
         ensures entering { IfOk result (λ o. IfSome o (λ l. IsEntering (before_of held) l.0 l.1)) }
-        ensures block { IfOk result (λ o. IfSome o (λ l. is_break l.0 ≡ false)) }
     {
         let StatementForm::Act(_, otherwise) = form else {
             return Ok(None);
@@ -502,7 +525,6 @@ impl Lowering {
         requires entering { IsEnteringEntrance (before_of held) entrance }
         requires first_entering { IsEntering (entrance_entered entrance (before_of held)) first.0 first.1 }
         requires second_entering { IsEntering (before_of held) second.0 second.1 }
-        requires block { is_break second.0 ≡ false }
         ensures named { IfOk result (λ l. IsChosen first.0 second.0 entrance l.0) }
         ensures lowered { IfOk result (λ l. IsLowered (view_of self.now.scope) held l.0 l.1) }
         ensures entering { IfOk result (λ l. IsEntering (before_of held) l.0 l.1) }

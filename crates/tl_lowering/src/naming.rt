@@ -11,7 +11,7 @@ ghost use Rattle.tl_lowering.specs.Declaring.{IsLocking, IsDeclarable, IsNewValu
 ghost use Rattle.tl_lowering.specs.Entering.{before_of, entered_of, IsEntering, IsEnteringPlace};
 ghost use Rattle.tl_lowering.specs.Passing.{failing_entered, nowhere_entered};
 ghost use Rattle.tl_lowering.specs.Names.{names_of};
-ghost use Rattle.tl_lowering.specs.Naming.{IsNumber, IsChanged, IsUpdate, AreWritten, IsWritten, Emits, IsAction, declares, uses, with_locking, Locks};
+ghost use Rattle.tl_lowering.specs.Naming.{IsNumber, IsChanged, IsUpdate, AreWritten, IsWritten, rewrites as rewrites_lem, Emits, IsAction, declares, uses, with_locking, Locks};
 ghost use Rattle.tl_lowering.specs.Outcomes.{may_fail as may_fail_lem, condition_may_fail as condition_may_fail_lem};
 ghost use Rattle.tl_lowering.specs.Paths.{nodes_of, paths_of, nowhere, failing_if};
 ghost use Rattle.tl_lowering.specs.Scopes.{View, view_of, IsInUse, IsAt, IsLowered, Extends};
@@ -38,6 +38,19 @@ pub struct Locking {
     pub second: Option<(Name, NodeRegister)>,
     /// What holds after the lock.
     pub held: Held,
+}
+
+// Whether one of these writes is to that field of the node.
+fn rewrites(writes: &Statement, node: NodeRegister, field: Field) -> bool
+    ensures { result ≡ rewrites_lem writes.now node field }
+{
+    match writes {
+        Statement::Sequence(first, second) => {
+            rewrites(first, node, field) || rewrites(second, node, field)
+        }
+        Statement::Write(other, written, _) => *other == node && *written == field,
+        _ => false,
+    }
 }
 
 impl Lowering {
@@ -79,19 +92,24 @@ impl Lowering {
         Ok((Statement::Assign(register, number), flow))
     }
 
-    // The field that a write changes, and its new number.
+    // The field that a write changes, and its new number. 298 if `done` writes that field.
     fn update(
         &self,
         write: &parsed::Write,
+        done: &Statement,
         held: Held,
     ) -> Result<(NodeRegister, Field, Expression), SyntaxFault>
         requires { IsAt (view_of self.now.scope) held }
         ensures named { IfOk result (λ u. IsUpdate (names_of self.now.scope) write.now u.0 u.1 u.2) }
+        ensures apart { IfOk result (λ u. rewrites_lem done.now u.0 u.1 ≡ false) }
         ensures held { IfOk result (λ u. holds (nodes_of held) u.0 ≡ true) }
         ensures readable { IfOk result (λ u. IsReadable self.now.scope.values (nodes_of held) u.2) }
     {
         let node = self.scope.node(write.node, held)?;
         let field = self.scope.field(write.field)?;
+        if rewrites(done, node, field) {
+            return Err(SyntaxFault::at(Wrong::WrittenTwice, write.node.offset));
+        }
         let operand = self.scope.number(self.alloc, &write.value, held)?;
         let number = self.changed(Expression::Field(node, field), write.change, operand)?;
         Ok((node, field, number))
@@ -103,7 +121,7 @@ impl Lowering {
         ensures lowered { IfOk result (λ l. IsLowered (view_of self.now.scope) held l.0 l.1) }
         ensures entering { IfOk result (λ l. IsEntering (before_of held) l.0 l.1) }
     {
-        let (node, field, number) = self.update(write, held)?;
+        let (node, field, number) = self.update(write, &Statement::Skip, held)?;
         let needed = registers_for(&number, usize::from(self.scope.values));
         check_registers(needed, write.value.offset)?;
         let flow = Flow::on(held).failing_if(may_fail(&number), held);
@@ -130,7 +148,7 @@ impl Lowering {
         let Some(register) = ValueRegister::new(free) else {
             return Err(SyntaxFault::at(Wrong::Values, write.node.offset));
         };
-        let (node, field, number) = self.update(write, held)?;
+        let (node, field, number) = self.update(write, &done, held)?;
         let needed = registers_of(&number, usize::from(free));
         check_registers(needed, write.value.offset)?;
         let last = Statement::Write(node, field, Expression::Value(register));

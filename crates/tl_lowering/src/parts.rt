@@ -31,6 +31,15 @@ pub const MAX_PART_SIZE: usize = 262_144;
 /// How many parts may be in one another.
 pub const MAX_PART_DEPTH: u8 = 4;
 
+/// How many blocks may be in one another, those of parts counted where they are used.
+pub const MAX_BLOCKS: usize = 80;
+
+/// How many statements a text may have, each counted as often as blocks are around it, those of parts at each use.
+pub const MAX_WORK: usize = 262_144;
+
+// At a use of a part, so many names count as one word.
+const NAMES_A_WORD: usize = 16;
+
 // A part where it is used: what names stand for outside, the declarations before the part, its body, and the offset of its name.
 #[derive(Clone, Copy)]
 struct Using<'a> {
@@ -90,14 +99,17 @@ impl Lowering {
         }
     }
 
-    // 274 in too many parts, 294 if the bodies of parts that were read become too long.
+    // 274 in too many parts, 294 if the bodies of parts that were read become too long, or the uses too many for the text's names.
     fn enter_part(&mut self, part: &Part, offset: usize) -> Result<(), SyntaxFault>
         ensures { self.new.scope ≡ self.old.scope }
     {
         if self.part_depth >= MAX_PART_DEPTH {
             return Err(SyntaxFault::at(Wrong::PartDepth, offset));
         }
-        let Some(left) = self.part_size.checked_sub(part.size) else {
+        // What all names stand for in the part is found at each use.
+        let names = self.scope.name_count() / NAMES_A_WORD;
+        let size = part.size.saturating_add(names);
+        let Some(left) = self.part_size.checked_sub(size) else {
             return Err(SyntaxFault::at(Wrong::PartSize, offset));
         };
         self.part_size = left;
@@ -236,7 +248,7 @@ impl Lowering {
     {
         let (part, index) = self.part(before, name)?;
         self.enter_part(part, name.offset)?;
-        let inner = self.scope.inside(self.alloc)?;
+        let inner = self.scope.inside(self.alloc, index)?;
         let outer = std::mem::replace(&mut self.scope, inner);
         let using = Using {
             outer: &outer,

@@ -15,7 +15,7 @@ ghost use Rattle.tl_syntax.specs.Tokens.{spellings};
 
 use crate::atomic::check_atomic;
 use crate::lowering::Lowering;
-use crate::parts::MAX_PART_SIZE;
+use crate::parts::{MAX_PART_SIZE, MAX_WORK};
 use crate::paths::Held;
 use crate::program::{Procedure, Program, Statement};
 use crate::scope::Scope;
@@ -26,15 +26,21 @@ use tl_syntax::parsed::{self, Declaration, Name};
 use tl_syntax::{Syntax, SyntaxFault, Wrong, parse};
 
 impl Lowering {
-    fn declare_field(&mut self, name: Name, number: i32, offset: usize) -> Result<(), SyntaxFault>
+    fn declare_field(
+        &mut self,
+        name: Name,
+        number: i32,
+        index: usize,
+        offset: usize,
+    ) -> Result<(), SyntaxFault>
         requires { IsBare (view_of self.old.scope) }
-        ensures named { OnOk result (IsWithField (names_of self.old.scope) name number (names_of self.new.scope)) }
+        ensures named { OnOk result (IsWithField index (names_of self.old.scope) name number (names_of self.new.scope)) }
         ensures bare { OnOk result (IsBare (view_of self.new.scope)) }
     {
         self.scope.check_new_field(name)?;
         match u8::try_from(number).ok().and_then(Field::new) {
             Some(field) => {
-                self.scope.declare_field(name, field);
+                self.scope.declare_field(name, field, index);
                 Ok(())
             }
             None => Err(SyntaxFault::at(Wrong::FieldNumber, offset)),
@@ -131,11 +137,11 @@ impl Lowering {
                     name,
                     number,
                     offset,
-                } => self.declare_field(*name, *number, *offset)?,
+                } => self.declare_field(*name, *number, index, *offset)?,
                 Declaration::Constant { name, value } => {
                     self.scope.check_new(*name)?;
                     let number = self.scope.constant(value)?;
-                    self.scope.declare_constant(*name, number);
+                    self.scope.declare_constant(*name, number, index);
                 }
                 Declaration::Procedure(procedure) => {
                     procedures.push(self.procedure(before, procedure, names)?)?;
@@ -165,6 +171,8 @@ pub fn read(alloc: Global, text: &[u8]) -> Result<Program, SyntaxFault>
         scope,
         part_size: MAX_PART_SIZE,
         part_depth: 0,
+        level: 0,
+        work: MAX_WORK,
     };
     lowering.program(&declarations, &names)
 }

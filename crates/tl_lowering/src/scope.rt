@@ -3,7 +3,7 @@
 ghost use Rattle.std.specs.Prelude.{◌≡◌, ◌≢◌, ℕ, ◌+◌, ◌<◌, length, slice_set, get_or, take, drop, true, Some, None, IfOk, OnOk, IfSome};
 ghost use Rattle.tl_instr.specs.declared.operand.TheConstants.{VALUE_REGISTERS, NODE_REGISTERS};
 ghost use Rattle.tl_lowering.specs.declared.scope.Meaning.TheVariants.{Nothing, Value, Node};
-ghost use Rattle.tl_lowering.specs.Names.{names_of, without_meaning, stands_for, field_named, index_of, constant_only, inside, with_alias, with_constant, with_field, with_procedure, with_unnamed, with_index, with_value, with_node};
+ghost use Rattle.tl_lowering.specs.Names.{names_of, without_meaning, stands_for, field_named, index_of, constant_only, field_before, inside, with_alias, with_constant, with_field, with_procedure, with_unnamed, with_index, with_value, with_node};
 ghost use Rattle.tl_lowering.specs.Paths.{nodes_of};
 ghost use Rattle.tl_lowering.specs.Sets.{holds};
 ghost use Rattle.tl_lowering.specs.Scopes.{View, view_of, IsInUse, IsBare, Extends, meaning_of, node_in, forget};
@@ -18,7 +18,8 @@ use tl_syntax::{Symbol, SyntaxFault, Wrong};
 #[derive(Clone, Copy, Debug)]
 pub enum Meaning {
     Nothing,
-    Constant(i32),
+    /// Its number, and the index of its declaration.
+    Constant(i32, usize),
     Value(ValueRegister),
     /// The place of a loop's child: a value that can't be assigned.
     Index(ValueRegister),
@@ -26,14 +27,24 @@ pub enum Meaning {
 }
 
 impl Meaning {
-    // What a name stands for in a part: a constant, or nothing.
-    fn in_a_part(self) -> Meaning
-        ensures { result ≡ constant_only self }
+    // What a name stands for in the part that declaration `part` declares: a constant that is declared before it, or nothing.
+    fn in_a_part(self, part: usize) -> Meaning
+        ensures { result ≡ constant_only part self }
     {
         match self {
-            Meaning::Constant(number) => Meaning::Constant(number),
+            Meaning::Constant(number, index) if index < part => Meaning::Constant(number, index),
             _ => Meaning::Nothing,
         }
+    }
+}
+
+// A field with the index of its declaration, if it is known in the part that declaration `part` declares.
+fn field_in_a_part(field: Option<(Field, usize)>, part: usize) -> Option<(Field, usize)>
+    ensures { result ≡ field_before part field }
+{
+    match field {
+        Some((field, index)) if index < part => Some((field, index)),
+        _ => None,
     }
 }
 
@@ -41,7 +52,8 @@ impl Meaning {
 #[derive(Drop)]
 pub struct Scope {
     meanings: Vec<Meaning>,
-    fields: Vec<Option<Field>>,
+    // With the index of its declaration.
+    fields: Vec<Option<(Field, usize)>>,
     // The index of the declaration of the procedure or the part that has a name.
     procedures: Vec<Option<usize>>,
     // The names that the open blocks have declared so far, those of the outer blocks first.
@@ -79,6 +91,11 @@ impl Scope {
         })
     }
 
+    /// How many names the text has.
+    pub fn name_count(&self) -> usize {
+        self.meanings.len()
+    }
+
     fn meaning(&self, name: Name) -> Meaning
         ensures { result ≡ meaning_of (view_of self.now) name.symbol }
     {
@@ -112,23 +129,25 @@ impl Scope {
         }
     }
 
-    pub fn declare_field(&mut self, name: Name, field: Field)
+    /// The declaration with that index declares a field.
+    pub fn declare_field(&mut self, name: Name, field: Field, index: usize)
         ensures bare { IsBare (view_of self.old) → IsBare (view_of self.new) }
-        ensures named { names_of self.new ≡ with_field (names_of self.old) name field }
+        ensures named { names_of self.new ≡ with_field (names_of self.old) name field index }
     {
         if name.symbol.0 < self.fields.len() {
-            self.fields[name.symbol.0] = Some(field);
+            self.fields[name.symbol.0] = Some((field, index));
         }
     }
 
-    pub fn declare_constant(&mut self, name: Name, number: i32)
+    /// The declaration with that index declares a constant.
+    pub fn declare_constant(&mut self, name: Name, number: i32, index: usize)
         ensures in_use { IsInUse (view_of self.old) → IsInUse (view_of self.new) }
         ensures values { self.new.values ≡ self.old.values }
         ensures nodes { self.new.nodes ≡ self.old.nodes }
         ensures loops { self.new.loops ≡ self.old.loops }
-        ensures named { names_of self.new ≡ with_constant (names_of self.old) name number }
+        ensures named { names_of self.new ≡ with_constant (names_of self.old) name number index }
     {
-        self.set(name.symbol, Meaning::Constant(number));
+        self.set(name.symbol, Meaning::Constant(number, index));
     }
 
     /// Declares a procedure or a part. 276 if one of that name is declared already.
@@ -157,19 +176,24 @@ impl Scope {
         }
     }
 
-    /// The scope in a part that is used here: of the names only those of constants and fields are known.
-    pub fn inside(&self, alloc: Global) -> Result<Scope, AllocError>
+    /// The scope in the part that declaration `part` declares, used here: of the names only those of constants and fields are known
+    /// that are declared before the part.
+    pub fn inside(&self, alloc: Global, part: usize) -> Result<Scope, AllocError>
         ensures in_use { IfOk result (λ s. IsInUse (view_of s)) }
         ensures nodes { IfOk result (λ s. (i n : ℕ) → get_or (view_of s).meanings i Nothing ≢ Node n) }
-        ensures named { IfOk result (λ s. names_of s ≡ inside (names_of self.now)) }
+        ensures named { IfOk result (λ s. names_of s ≡ inside part (names_of self.now)) }
     {
         let mut meanings = Vec::new(alloc);
         for meaning in &self.meanings {
-            meanings.push(meaning.in_a_part())?;
+            meanings.push(meaning.in_a_part(part))?;
+        }
+        let mut fields = Vec::new(alloc);
+        for field in &self.fields {
+            fields.push(field_in_a_part(*field, part))?;
         }
         Ok(Scope {
             meanings,
-            fields: Vec::from_slice(alloc, &self.fields)?,
+            fields,
             procedures: Vec::from_slice(alloc, &self.procedures)?,
             local: Vec::new(alloc),
             values: self.values,
@@ -368,7 +392,7 @@ impl Scope {
         ensures { IfOk result (λ f. field_named (names_of self.now) name ≡ Some f) }
     {
         match self.fields.get(name.symbol.0) {
-            Some(Some(field)) => Ok(*field),
+            Some(Some((field, _))) => Ok(*field),
             _ => Err(SyntaxFault::at(Wrong::Unknown, name.offset)),
         }
     }

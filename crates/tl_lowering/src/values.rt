@@ -155,7 +155,7 @@ impl Scope {
         ensures readable { (held : Nodes) → IfOk result (λ e. IsReadable self.now.values held e) }
     {
         match self.known(name)? {
-            Meaning::Constant(number) => Ok(Expression::Constant(number)),
+            Meaning::Constant(number, _) => Ok(Expression::Constant(number)),
             Meaning::Value(register) => Ok(Expression::Value(register)),
             Meaning::Index(register) => Ok(Expression::Value(register)),
             _ => Err(SyntaxFault::at(Wrong::NoNumber, offset)),
@@ -282,7 +282,7 @@ impl Scope {
         ensures { IfOk result (IsConstant (names_of self.now) (Named name)) }
     {
         match self.known(name)? {
-            Meaning::Constant(number) => Ok(number),
+            Meaning::Constant(number, _) => Ok(number),
             _ => Err(SyntaxFault::at(Wrong::NoNumber, offset)),
         }
     }
@@ -315,7 +315,7 @@ impl Scope {
         let number = match expression.form {
             Form::Number(number) => number,
             Form::Named(name) => match self.known(name)? {
-                Meaning::Constant(number) => number,
+                Meaning::Constant(number, _) => number,
                 _ => 0,
             },
             _ => 0,

@@ -1,18 +1,18 @@
 -- What a statement leaves: what is held then, and the records of before where no field can have been written.
-use Rattle.std.proofs.Common.{◌≡◌, ◌≢◌, ℕ, zero, suc, ◌+◌, List, [], ◌∷◌, ◌++◌, length, Bool, true, false, ◌||◌, Option, Some, None, is_some, option_map, if◌then◌else◌, refl, sym, ap, ◌∙◌, subst, arith, append-nil, inl, inr}
-use Rattle.std.specs.Prelude.{ℤ, pos, negsuc, IfSome, slice_set, slice_index, nat_le}
+use Rattle.std.proofs.Common.{◌≡◌, ℕ, zero, suc, ◌+◌, List, [], ◌∷◌, ◌++◌, length, Bool, true, false, ◌||◌, Option, Some, None, is_some, option_map, if◌then◌else◌, refl, sym, ap, ap₂, ◌∙◌, subst, arith, append-nil, inl, inr}
+use Rattle.std.specs.Prelude.{ℤ, pos, negsuc, ◌+ℤ◌, ◌<◌, ◌≤◌, ◌-◌, ◌^◌, ◌≢◌, IfSome, slice_set, slice_index, get_or, replicate, nat_le, nat_lt}
 use Rattle.std.specs.Int.Signed.{lt_z}
 use Rattle.std.specs.Ordering.{int_eq}
 use Rattle.std.specs.Option.{unwrap_or}
-use Rattle.std.proofs.lemmas.Bool.{or_parts, or_left, or_right}
-use Rattle.std.proofs.lemmas.List.{length-replicate, length-set, get_or-set_other, set_comm}
-use Rattle.tl_instr.specs.declared.operand.TheConstants.{NODE_REGISTERS}
+use Rattle.std.proofs.lemmas.Bool.{or_parts, or_left, or_right, lt-ltb, le-leb, leb-true}
+use Rattle.std.proofs.lemmas.List.{length-append, length-replicate, length-set, get_or-set_same, get_or-set_other, set_comm}
+use Rattle.tl_instr.specs.declared.operand.TheConstants.{VALUE_REGISTERS, NODE_REGISTERS}
 use Rattle.tl_tree.specs.Shape.{kids}
 use Rattle.tl_tree.specs.Records.{Records}
 use Rattle.tl_tree_locking.specs.declared.action.Action.{Action}
 use Rattle.tl_tree_locking.specs.declared.action.Action.TheVariants as did
 use Rattle.tl_machine.specs.Runs.{Held, State}
-use Rattle.tl_machine.specs.Alone.{node, with_value, with_node, numbered, open_kid, start}
+use Rattle.tl_machine.specs.Alone.{value, node, fitting, with_value, with_node, numbered, open_kid, start}
 use Rattle.tl_machine.proofs.Slots.{held_by}
 use Rattle.tl_syntax.specs.declared.parsed.Declaration.{Declaration}
 use Rattle.tl_syntax.specs.declared.parsed.Procedure.{Procedure as TextProcedure}
@@ -25,12 +25,15 @@ use Rattle.tl_lowering.specs.declared.program.Place.{Place}
 use Rattle.tl_lowering.specs.declared.program.Place.TheVariants as P
 use Rattle.tl_lowering.specs.declared.program.Statement.{Statement}
 use Rattle.tl_lowering.specs.declared.program.Statement.TheVariants as S
-use Rattle.tl_lowering.specs.Atomic.{or_of, on as on_path, failing_if, either, then_by, behind_turns, written, IsAtomic}
+use Rattle.std.specs.declared.boxed.Box.{Box}
+use Rattle.std.specs.declared.alloc.Global.{Global}
+use Rattle.tl_lowering.specs.Atomic.{or_of, on as on_path, failing_if, either, then_by, in_turns, behind_turns, written, body_written, IsAtomic}
 use Rattle.tl_lowering.specs.Fit.{AllTurn}
 use Rattle.tl_lowering.specs.Names.{Names}
 use Rattle.tl_lowering.specs.Outcomes.{may_fail, condition_may_fail, locked, unlocked, nodes_behind, here_if, next, going_on, handled_by, behind_loop, after, fails, breaks}
 use Rattle.tl_lowering.specs.Reading.{IsTried, tried, IsBody}
 use Rattle.tl_lowering.specs.Sets.{Nodes, none_held, holds, with_node as also, without_node, both_of, all_of}
+use Rattle.tl_lowering.specs.Walks.{leaves_alone, is_walk}
 use Rattle.tl_lowering.specs.Sound.{IsReadable, IsTestable, IsLockable, KeepsHeld, IsWellFormed}
 use Rattle.tl_compiler.specs.Among.{IsIn}
 use Rattle.tl_compiler.specs.Statements.{held_behind}
@@ -46,6 +49,9 @@ use Rattle.tl_meaning.proofs.PlaceRuns.{held_again}
 use Rattle.tl_meaning.proofs.PairRuns.{still_held, free_again}
 use Rattle.tl_meaning.proofs.TryRuns.{start_within}
 use Rattle.tl_meaning.proofs.LoopRuns.{keeps_end, keeps_break}
+use Rattle.tl_syntax.specs.declared.operator.Operator.TheVariants as O
+use Rattle.tl_meaning.proofs.Walks.{Stays, stays, left_stays}
+use Rattle.tl_meaning.proofs.WalkForms.{walk_of, walk_begins}
 
 -- ---- what fails
 
@@ -81,12 +87,49 @@ truth_fails parents (C.And' p c q e) d s r f = by (truth parents c s) (truth par
     by (Some true) y g h is = or_right (condition_may_fail c) (condition_may_fail e) (h is)
     by (Some false) y g h is = cc
 
+-- ---- the places of a `for each`
+
+-- the place before turn n
+abbrev place_before : ℕ → ℤ
+place_before zero = negsuc 0
+place_before (suc n) = pos n
+
+fits_next : (n : ℕ) → n < 2 ^ 16 → fitting (place_before n +ℤ pos 1) ≡ Some (pos n)
+fits_next zero lt = refl
+fits_next (suc n) lt =
+    let same : n + 1 ≡ suc n = omega arith in
+    ap (λ k. fitting (pos k)) same ∙ ap (λ f. if f then Some (pos (suc n)) else None) (lt-ltb (suc n) (2 ^ 63) (omega (arith, lt)))
+
+opens_next : (count n : ℕ) → suc n < count → open_kid (n + 1) count (pos (suc n)) ≡ Some (suc n)
+opens_next count n lt =
+    ap₂ (λ f e. if f then (if e then Some (suc n) else None) else None) (lt-ltb (suc n) count lt) (le-leb (n + 1) (suc n) (omega arith))
+
+opens_first : (cursor count n : ℕ) → open_kid cursor count (pos 0) ≡ Some n → n ≡ 0
+opens_first cursor count n = by (nat_lt 0 count) (nat_le cursor 0)
+  where
+    by : (f e : Bool) → (if f then (if e then Some 0 else None) else None) ≡ Some n → n ≡ 0
+    by true true g = cc
+    by true false g = cc
+    by false e g = cc
+
+set_found : (l : List (Option Held)) (i : ℕ) (h : Held) (o : Option Held) → get_or l i None ≡ Some h → get_or (slice_set l i o) i None ≡ o
+set_found [] i h o e = cc
+set_found (y ∷ l) zero h o e = refl
+set_found (y ∷ l) (suc i) h o e = set_found l i h o e
+
+no_both : false ≡ true → ⊥
+no_both e = cc
+
 -- ---- a place in a call
 
 -- if w is false, nothing has been written since the records were t
 record Here (w : Bool) (t : Records) (s : State) : Type 0 where
   size : length s.nodes ≡ NODE_REGISTERS
+  values : VALUE_REGISTERS ≤ length s.values
   clean : w ≡ false → s.records ≡ t
+
+longer : (s : State) (v : ℕ) (y : ℤ) → VALUE_REGISTERS ≤ length s.values → VALUE_REGISTERS ≤ length (with_value s v y).values
+longer s v y h = subst (λ z. VALUE_REGISTERS ≤ z) (sym (length-set s.values v y)) h
 
 abbrev HereBy : Option Bool → Records → State → Type 0
 HereBy None t s = ⊥
@@ -95,21 +138,25 @@ HereBy (Some w) t s = Here w t s
 here_left : (p q : Option Bool) (t : Records) (s : State) → HereBy p t s → HereBy (or_of p q) t s
 here_left None q t s h = absurd h
 here_left (Some w) None t s h = h
-here_left (Some w) (Some v) t s h = record { size = h.size; clean = λ e. h.clean (or_parts w v e).0 }
+here_left (Some w) (Some v) t s h = record { size = h.size; values = h.values; clean = λ e. h.clean (or_parts w v e).0 }
 
 here_right : (p q : Option Bool) (t : Records) (s : State) → HereBy q t s → HereBy (or_of p q) t s
 here_right None q t s h = h
 here_right (Some w) None t s h = absurd h
-here_right (Some w) (Some v) t s h = record { size = h.size; clean = λ e. h.clean (or_parts w v e).1 }
+here_right (Some w) (Some v) t s h = record { size = h.size; values = h.values; clean = λ e. h.clean (or_parts w v e).1 }
 
 -- in another state with the same records
-here_there : (p : Option Bool) (t : Records) (s u : State) → length u.nodes ≡ length s.nodes → u.records ≡ s.records → HereBy p t s → HereBy p t u
-here_there None t s u e f h = h
-here_there (Some w) t s u e f h = record { size = e ∙ h.size; clean = λ g. f ∙ h.clean g }
+here_there : (p : Option Bool) (t : Records) (s u : State) → length u.values ≡ length s.values → length u.nodes ≡ length s.nodes → u.records ≡ s.records → HereBy p t s → HereBy p t u
+here_there None t s u v e f h = h
+here_there (Some w) t s u v e f h = record { size = e ∙ h.size; values = subst (λ z. VALUE_REGISTERS ≤ z) (sym v) h.values; clean = λ g. f ∙ h.clean g }
 
 size_of : (p : Option Bool) (t : Records) (s : State) → HereBy p t s → length s.nodes ≡ NODE_REGISTERS
 size_of None t s h = absurd h
 size_of (Some w) t s h = h.size
+
+values_of : (p : Option Bool) (t : Records) (s : State) → HereBy p t s → VALUE_REGISTERS ≤ length s.values
+values_of None t s h = absurd h
+values_of (Some w) t s h = h.values
 
 -- how a statement ends, by what is known of it
 abbrev EndsBy : Option Nodes → List Nodes → List Nodes → Ways → Records → Ending → State → Type 0
@@ -168,7 +215,7 @@ left_ends A whole keeps F B x t On s es e =
     let size_kept = keeps.size (held_at s) e.0 long in
     let u = (leave kept s).state in
     let held : held_at u ≡ kept = held_then kept s size size_kept ∙ both_within (held_at s) kept (long ∙ sym size_kept) (keeps.within (held_at s) e.0) in
-    let ends : EndsBy whole F B x t On u = (is ∙ ap Some (sym held), here_there x.after t s u (leave_sizes NODE_REGISTERS kept s).1 (leave_records NODE_REGISTERS kept s) e.1) in
+    let ends : EndsBy whole F B x t On u = (is ∙ ap Some (sym held), here_there x.after t s u (leave_sizes NODE_REGISTERS kept s).0 (leave_sizes NODE_REGISTERS kept s).1 (leave_records NODE_REGISTERS kept s) e.1) in
     let by_kept : Ends whole F B x t (leaving (Some kept) (record { outcome = On; state = s; events = es })) = subst (λ o. EndsBy whole F B x t o u) (sym (leave_on NODE_REGISTERS kept s)) ends in
     subst (λ k. Ends whole F B x t (leaving k (record { outcome = On; state = s; events = es }))) (sym is) by_kept
 
@@ -176,8 +223,8 @@ left_ends A whole keeps F B x t On s es e =
 
 -- a lock changes no record; without it the same is held as before
 abbrev PlacedBy : Nodes → State → Ending → State → Type 0
-PlacedBy then_held s On u = (held_at u ≡ then_held) × (length u.nodes ≡ length s.nodes) × (u.records ≡ s.records)
-PlacedBy then_held s Fails u = (held_at u ≡ held_at s) × (length u.nodes ≡ length s.nodes) × (u.records ≡ s.records)
+PlacedBy then_held s On u = (held_at u ≡ then_held) × (length u.nodes ≡ length s.nodes) × (u.records ≡ s.records) × (length u.values ≡ length s.values)
+PlacedBy then_held s Fails u = (held_at u ≡ held_at s) × (length u.nodes ≡ length s.nodes) × (u.records ≡ s.records) × (length u.values ≡ length s.values)
 PlacedBy then_held s Breaks u = ⊥
 PlacedBy then_held s Returns u = ⊥
 
@@ -185,57 +232,58 @@ abbrev Placed : Nodes → State → Done → Type 0
 Placed then_held s d = PlacedBy then_held s d.outcome d.state
 
 given_placed : (g : Nodes) (s : State) (o : Option ℤ) (go : ℤ → Done) → ((y : ℤ) → Placed g s (go y)) → Placed g s (given o s go)
-given_placed g s None go more = (refl, refl, refl)
+given_placed g s None go more = (refl, refl, refl, refl)
 given_placed g s (Some y) go more = more y
 
 node_placed : (n : ℕ) (o : Option ℕ) (s : State) → Placed (also (held_at s) n) s (lock_node n o s)
-node_placed n None s = (refl, refl, refl)
-node_placed n (Some x) s = let h : Option Held = Some (record { node = x; cursor = 0 }) in (held_set s.nodes n h, length-set s.nodes n h, refl)
+node_placed n None s = (refl, refl, refl, refl)
+node_placed n (Some x) s = let h : Option Held = Some (record { node = x; cursor = 0 }) in (held_set s.nodes n h, length-set s.nodes n h, refl, refl)
 
 child_placed : (parents : List ℕ) (n p : ℕ) (y : ℤ) (s : State) → holds (held_at s) p ≡ true → Placed (also (held_at s) n) s (lock_child parents n p y s)
 child_placed parents n p y s is_held = by (node s p)
   where
     kid : (h : Held) (o : Option ℕ) → Placed (also (held_at s) n) s (lock_kid parents n p h o s)
-    kid h None = (refl, refl, refl)
+    kid h None = (refl, refl, refl, refl)
     kid h (Some i) =
         let g : Option Held = Some (record { node = h.node; cursor = i + 1 }) in
         let b : Option Held = Some (record { node = slice_index (kids parents h.node) i; cursor = 0 }) in (
           held_set (slice_set s.nodes p g) n b ∙ ap (λ l. slice_set l n true) (held_set s.nodes p g ∙ held_again (held_at s) p is_held),
           length-set (slice_set s.nodes p g) n b ∙ length-set s.nodes p g,
           refl,
+          refl,
         )
 
     by : (o : Option Held) → Placed (also (held_at s) n) s (lock_child_by parents n p o y s)
-    by None = (refl, refl, refl)
+    by None = (refl, refl, refl, refl)
     by (Some h) = kid h (open_kid h.cursor (length (kids parents h.node)) y)
 
 -- the lower child is freed again
-undone : (g : Nodes) (lower : ℕ) (s u : State) → holds (held_at s) lower ≡ false → held_at u ≡ also (held_at s) lower → length u.nodes ≡ length s.nodes → u.records ≡ s.records → Placed g s (and_then (free lower u) (plain Fails))
-undone g lower s u is_free e f r = by (node u lower) refl
+undone : (g : Nodes) (lower : ℕ) (s u : State) → holds (held_at s) lower ≡ false → held_at u ≡ also (held_at s) lower → length u.nodes ≡ length s.nodes → u.records ≡ s.records → length u.values ≡ length s.values → Placed g s (and_then (free lower u) (plain Fails))
+undone g lower s u is_free e f r v = by (node u lower) refl
   where
     by : (o : Option Held) → node u lower ≡ o → Placed g s (and_then (free_by o lower u) (plain Fails))
-    by (Some h) is = (held_set u.nodes lower None ∙ ap (λ l. slice_set l lower false) e ∙ free_again (held_at s) lower is_free, length-set u.nodes lower None ∙ f, r)
+    by (Some h) is = (held_set u.nodes lower None ∙ ap (λ l. slice_set l lower false) e ∙ free_again (held_at s) lower is_free, length-set u.nodes lower None ∙ f, r, v)
     by None is =
         let none : holds (held_at u) lower ≡ false = held_is u.nodes lower ∙ ap is_some is in
-        (sym (held_again (held_at u) lower none) ∙ ap (λ l. slice_set l lower false) e ∙ free_again (held_at s) lower is_free, f, r)
+        (sym (held_again (held_at u) lower none) ∙ ap (λ l. slice_set l lower false) e ∙ free_again (held_at s) lower is_free, f, r, v)
 
 in_order_placed : (parents : List ℕ) (lower : ℕ) (x : ℤ) (upper : ℕ) (y : ℤ) (p : ℕ) (s : State) → holds (held_at s) lower ≡ false → holds (held_at s) p ≡ true
     → Placed (also (also (held_at s) lower) upper) s (lock_in_order parents lower x upper y p s)
 in_order_placed parents lower x upper y p s is_free is_held =
     let d = lock_child parents lower p x s in first d.outcome d.state d.events (child_placed parents lower p x s is_held)
   where
-    second : (u : State) → held_at u ≡ also (held_at s) lower → length u.nodes ≡ length s.nodes → u.records ≡ s.records → (o : Ending) (v : State) (es : List Action) → PlacedBy (also (held_at u) upper) u o v
+    second : (u : State) → held_at u ≡ also (held_at s) lower → length u.nodes ≡ length s.nodes → u.records ≡ s.records → length u.values ≡ length s.values → (o : Ending) (v : State) (es : List Action) → PlacedBy (also (held_at u) upper) u o v
         → Placed (also (also (held_at s) lower) upper) s (or_else (record { outcome = o; state = v; events = es }) (λ s. and_then (free lower s) (plain Fails)))
-    second u e f r On v es q = (q.0 ∙ ap (λ l. also l upper) e, q.1 ∙ f, q.2 ∙ r)
-    second u e f r Fails v es q = undone (also (also (held_at s) lower) upper) lower s v is_free (q.0 ∙ e) (q.1 ∙ f) (q.2 ∙ r)
-    second u e f r Breaks v es q = absurd q
-    second u e f r Returns v es q = absurd q
+    second u e f r i On v es q = (q.0 ∙ ap (λ l. also l upper) e, q.1 ∙ f, q.2 ∙ r, q.3 ∙ i)
+    second u e f r i Fails v es q = undone (also (also (held_at s) lower) upper) lower s v is_free (q.0 ∙ e) (q.1 ∙ f) (q.2 ∙ r) (q.3 ∙ i)
+    second u e f r i Breaks v es q = absurd q
+    second u e f r i Returns v es q = absurd q
 
     first : (o : Ending) (u : State) (es : List Action) → PlacedBy (also (held_at s) lower) s o u
         → Placed (also (also (held_at s) lower) upper) s (and_then (record { outcome = o; state = u; events = es }) (λ s. or_else (lock_child parents upper p y s) (λ s. and_then (free lower s) (plain Fails))))
     first On u es q =
         let d = lock_child parents upper p y u in
-        second u q.0 q.1 q.2 d.outcome d.state d.events (child_placed parents upper p y u (subst (λ l. holds l p ≡ true) (sym q.0) (still_held (held_at s) lower p is_held)))
+        second u q.0 q.1 q.2 q.3 d.outcome d.state d.events (child_placed parents upper p y u (subst (λ l. holds l p ≡ true) (sym q.0) (still_held (held_at s) lower p is_held)))
     first Fails u es q = q
     first Breaks u es q = absurd q
     first Returns u es q = absurd q
@@ -245,7 +293,7 @@ pair_placed : (parents : List ℕ) (n : ℕ) (x : ℤ) (m : ℕ) (y : ℤ) (p : 
 pair_placed parents n x m y p s ne free_n free_m is_held = by (int_eq x y) (lt_z x y)
   where
     by : (e l : Bool) → Placed (also (also (held_at s) n) m) s (if e then plain Fails s else (if l then lock_in_order parents n x m y p s else lock_in_order parents m y n x p s))
-    by true l = (refl, refl, refl)
+    by true l = (refl, refl, refl, refl)
     by false true = in_order_placed parents n x m y p s free_n is_held
     by false false =
         subst (λ g. Placed g s (lock_in_order parents m y n x p s)) (set_comm (held_at s) m n true true (λ e. ne (sym e))) (in_order_placed parents m y n x p s free_m is_held)
@@ -274,7 +322,7 @@ module _ (parents : List ℕ) (t : Records) where
 
   assign_ends : (v : ℕ) (e : Expression) → Bounded (S.Assign v e)
   assign_ends v e d m l w s sound turn h =
-      with_number e d w s (λ y. plain On (with_value s v y)) (Some (held_at s)) (on_path w) sound.1 h (λ y. (refl, record { size = h.size; clean = h.clean }))
+      with_number e d w s (λ y. plain On (with_value s v y)) (Some (held_at s)) (on_path w) sound.1 h (λ y. (refl, record { size = h.size; values = longer s v y h.values; clean = h.clean }))
 
   emit_ends : (e : Expression) → Bounded (S.Emit e)
   emit_ends e d m l w s sound turn h = with_number e d w s (λ y. telling (did.Emit y) s) (Some (held_at s)) (on_path w) sound h (λ y. (refl, h))
@@ -285,14 +333,14 @@ module _ (parents : List ℕ) (t : Records) where
     where
       by : (y : ℤ) (o : Option Held) (g : Held) → o ≡ Some g → Ends (Some (held_at s)) [] [] (on_path true) t (write f y o s)
       by y None g e = cc
-      by y (Some k) g e = (refl, record { size = h.size; clean = λ e. cc })
+      by y (Some k) g e = (refl, record { size = h.size; values = h.values; clean = λ e. cc })
 
   free_ends : (n : ℕ) → Bounded (S.Free n)
   free_ends n d m l w s sound turn h = by (node s n) (held_by s.nodes n sound).0 (held_by s.nodes n sound).1
     where
       by : (o : Option Held) (g : Held) → o ≡ Some g → Ends (Some (without_node (held_at s) n)) [] [] (on_path w) t (free_by o n s)
       by None g e = cc
-      by (Some k) g e = (ap Some (sym (held_set s.nodes n None)), record { size = length-set s.nodes n None ∙ h.size; clean = h.clean })
+      by (Some k) g e = (ap Some (sym (held_set s.nodes n None)), record { size = length-set s.nodes n None ∙ h.size; values = h.values; clean = h.clean })
 
   descend_ends : (n : ℕ) (e : Expression) → Bounded (S.Descend n e)
   descend_ends n e d m l w s sound turn h = by (number parents e s)
@@ -301,7 +349,7 @@ module _ (parents : List ℕ) (t : Records) where
       down k None = (inl refl, h)
       down k (Some i) =
           let b : Option Held = Some (record { node = slice_index (kids parents k.node) i; cursor = 0 }) in
-          (ap Some (sym (held_set s.nodes n b ∙ held_again (held_at s) n sound.0)), record { size = length-set s.nodes n b ∙ h.size; clean = h.clean })
+          (ap Some (sym (held_set s.nodes n b ∙ held_again (held_at s) n sound.0)), record { size = length-set s.nodes n b ∙ h.size; values = h.values; clean = h.clean })
 
       from : (y : ℤ) (o : Option Held) → Ends (Some (held_at s)) (held_at s ∷ []) [] (failing_if true w (on_path w)) t (descend_by parents n o y s)
       from y None = (inl refl, h)
@@ -321,6 +369,7 @@ module _ (parents : List ℕ) (t : Records) where
         ap Some (sym (held_taken s n m b.0 sound.0 sound.1)),
         record {
           size = length-set (slice_set (slice_set s.nodes n None) m None) n (Some b.0) ∙ length-set (slice_set s.nodes n None) m None ∙ length-set s.nodes n None ∙ h.size;
+          values = h.values;
           clean = h.clean;
         },
       ) in
@@ -393,15 +442,6 @@ module _ (parents : List ℕ) (t : Records) where
           goes_first (condition_may_fail c) w g whole (fails a g ++ fails b g) (breaks a g ++ breaks b g) (either (written a w) (written b w)) t all.outcome all.state
           (second_left a b g g w whole (keeps_second (after a g) (after b g) (sizes a g size).after (sizes b g size).after) (behaviour parents b s) (twos d m l w s sound.2 turn.1 h))
 
-  let_ends : (p : _) (v : ℕ) (e : Expression) (a : Statement) → Bounded a → Bounded (S.Let' v e p a)
-  let_ends p v e a ones d m l w s sound turn h =
-      let g = held_at s in
-      let size : length g ≡ NODE_REGISTERS = held_length s.nodes ∙ h.size in
-      let r = given (number parents e s) s (λ y. behaviour parents a (with_value s v y)) in
-      left_ends (after a g) (after a g) (keeps_itself (after a g) (sizes a g size).after) (here_if (may_fail e) g ++ fails a g) (breaks a g) (failing_if (may_fail e) w (written a w)) t r.outcome r.state r.events
-      (given_ends (number parents e s) (may_fail e) w s (λ y. behaviour parents a (with_value s v y)) (after a g) (fails a g) (breaks a g) (written a w) t (number_fails parents e d s sound.1) h
-      (λ y. ones (d + 1) m l w (with_value s v y) sound.2 turn (record { size = h.size; clean = h.clean })))
-
   else_ends : (p q : _) (v : ℕ) (e : Expression) (a o : Statement) → Bounded a → Bounded o → Bounded (S.LetElse' v e p a q o)
   else_ends p q v e a o ones twos d m l w s sound turn h = by (number parents e s)
     where
@@ -419,7 +459,7 @@ module _ (parents : List ℕ) (t : Records) where
       by None = second_left a o g g w whole (keeps_second (after a g) (after o g) (sizes a g size).after (sizes o g size).after) (behaviour parents o s) (twos d m l w s sound.3 turn.1 h)
       by (Some y) =
           first_left a o g g w whole (keeps_first (after a g) (after o g) (sizes a g size).after (sizes o g size).after) (behaviour parents a (with_value s v y))
-          (ones (d + 1) m l w (with_value s v y) sound.2 turn.0 (record { size = h.size; clean = h.clean }))
+          (ones (d + 1) m l w (with_value s v y) sound.2 turn.0 (record { size = h.size; values = longer s v y h.values; clean = h.clean }))
 
   lock_ends : (p q : _) (place : Place) (a o : Statement) → Bounded a → Bounded o → Bounded (S.Lock' place p a q o)
   lock_ends p q place a o ones twos d m l w s sound turn h = let r = lock_place parents place s in by r.outcome r.state r.events (place_placed parents place d s sound.0)
@@ -447,14 +487,14 @@ module _ (parents : List ℕ) (t : Records) where
           let r = behaviour parents a u in
           let ends : Ends (after a k) (fails a k) (breaks a k) (written a w) t r =
           subst (λ z. Ends (after a z) (fails a z) (breaks a z) (written a w) t r) e.0
-          (ones d (nodes_behind place) l w u (subst (λ z. IsWellFormed a d (nodes_behind place) z l) (sym e.0) sound.1) turn.0 (here_there (Some w) t s u e.1 e.2 h)) in
+          (ones d (nodes_behind place) l w u (subst (λ z. IsWellFormed a d (nodes_behind place) z l) (sym e.0) sound.1) turn.0 (here_there (Some w) t s u e.3 e.1 e.2 h)) in
           first_left a o k g w whole
           (keeps_unlocked place (after a k) paths (keeps_first (after a k) (after o g) (sizes a k (locked_sized place g size)).after (sizes o g size).after)) (after_events es r) ends
       by Fails u es e =
           let r = behaviour parents o u in
           let ends : Ends (after o g) (fails o g) (breaks o g) (written o w) t r =
           subst (λ z. Ends (after o z) (fails o z) (breaks o z) (written o w) t r) e.0
-          (twos d m l w u (subst (λ z. IsWellFormed o d m z l) (sym e.0) sound.2) turn.1 (here_there (Some w) t s u e.1 e.2 h)) in
+          (twos d m l w u (subst (λ z. IsWellFormed o d m z l) (sym e.0) sound.2) turn.1 (here_there (Some w) t s u e.3 e.1 e.2 h)) in
           second_left a o k g w whole
           (keeps_unlocked place (after o g) paths (keeps_second (after a k) (after o g) (sizes a k (locked_sized place g size)).after (sizes o g size).after)) (after_events es r) ends
 
@@ -496,7 +536,7 @@ module _ (parents : List ℕ) (t : Records) where
           let f = leave start u in
           let long : length (held_at u) ≡ NODE_REGISTERS = held_length u.nodes ∙ here.size in
           let held : held_at f.state ≡ start = held_then start u here.size start_size ∙ both_within (held_at u) start (long ∙ sym start_size) (start_within g (held_at u) (fails a g) i) in
-          let there : Here v t f.state = here_there (Some v) t u f.state (leave_sizes NODE_REGISTERS start u).1 (leave_records NODE_REGISTERS start u) here in
+          let there : Here v t f.state = here_there (Some v) t u f.state (leave_sizes NODE_REGISTERS start u).0 (leave_sizes NODE_REGISTERS start u).1 (leave_records NODE_REGISTERS start u) here in
           let r = behaviour parents b f.state in
           let y = written b v in
           let ends : Ends (after b start) (fails b start) (breaks b start) y t r =
@@ -526,12 +566,12 @@ module _ (parents : List ℕ) (t : Records) where
 
   -- A turn begins as the one before it: where a turn may write, the next one begins behind a write.
   again : (f : Bool → Option Bool) (w : Bool) (s : State) → HereBy (f (w || unwrap_or (f w) false)) t s → Here (w || unwrap_or (f w) false) t s
-  again f true s h = record { size = size_of (f true) t s h; clean = λ e. cc }
+  again f true s h = record { size = size_of (f true) t s h; values = values_of (f true) t s h; clean = λ e. cc }
   again f false s h = by (f false) refl h
     where
       by : (p : Option Bool) → f false ≡ p → HereBy (f (unwrap_or p false)) t s → Here (unwrap_or p false) t s
       by None is h = absurd (subst (λ q. HereBy q t s) is h)
-      by (Some true) is h = record { size = size_of (f true) t s h; clean = λ e. cc }
+      by (Some true) is h = record { size = size_of (f true) t s h; values = values_of (f true) t s h; clean = λ e. cc }
       by (Some false) is h = subst (λ q. HereBy q t s) is h
 
   module _ (a : Statement) (ones : Bounded a) (d m : ℕ) (w : Bool) (g : Nodes) (sound : IsWellFormed a d m g true) (keeps : KeepsHeld (after a g) g) (turn : AllTurn a) where
@@ -584,7 +624,7 @@ module _ (parents : List ℕ) (t : Records) where
       all_turns : (n : ℕ) (s : State) → held_at s ≡ g → Here w t s → Ends whole (fails a g) [] (behind_turns false w x) t (leaving whole (broken (turns (suc n) (behaviour parents a) s)))
       all_turns n s e h =
           let r = turns (suc n) (behaviour parents a) s in
-          finish r.outcome r.state r.events (turns_end n s e (record { size = h.size; clean = λ f. h.clean (or_parts w (unwrap_or (written a w).after false) f).0 }))
+          finish r.outcome r.state r.events (turns_end n s e (record { size = h.size; values = h.values; clean = λ f. h.clean (or_parts w (unwrap_or (written a w).after false) f).0 }))
 
   repeat_ends : (p : _) (n : ℕ) (a : Statement) → Bounded a → Bounded (S.Repeat' n p a)
   repeat_ends p zero a ones d m l w s sound turn h = absurd (omega (arith, turn.0))
@@ -631,26 +671,331 @@ module _ (parents : List ℕ) (t : Records) where
       by None = fails_here
       by (Some y) = counts y
 
-  bounded : (a : Statement) → Bounded a
-  bounded S.Skip d m l w s sound turn h = (refl, h)
-  bounded (S.Sequence' p a q b) d m l w s sound turn h = sequence_ends p q a b (bounded a) (bounded b) d m l w s sound turn h
-  bounded (S.Assign v e) d m l w s sound turn h = assign_ends v e d m l w s sound turn h
-  bounded (S.Write n f e) d m l w s sound turn h = write_ends n f e d m l w s sound turn h
-  bounded (S.Emit e) d m l w s sound turn h = emit_ends e d m l w s sound turn h
-  bounded (S.Free n) d m l w s sound turn h = free_ends n d m l w s sound turn h
-  bounded (S.Descend n e) d m l w s sound turn h = descend_ends n e d m l w s sound turn h
-  bounded (S.Take n k) d m l w s sound turn h = take_ends n k d m l w s sound turn h
-  bounded S.Break d m l w s sound turn h = (inl refl, h)
-  bounded S.Return d m l w s sound turn h = tt
-  bounded S.Fail d m l w s sound turn h = (inl refl, h)
-  bounded (S.If' c p a q b) d m l w s sound turn h = if_ends p q c a b (bounded a) (bounded b) d m l w s sound turn h
-  bounded (S.Let' v e p a) d m l w s sound turn h = let_ends p v e a (bounded a) d m l w s sound turn h
-  bounded (S.LetElse' v e p a q o) d m l w s sound turn h = else_ends p q v e a o (bounded a) (bounded o) d m l w s sound turn h
-  bounded (S.Lock' place p a q o) d m l w s sound turn h = lock_ends p q place a o (bounded a) (bounded o) d m l w s sound turn h
-  bounded (S.Try' p a q b) d m l w s sound turn h = try_ends p q a b (bounded a) (bounded b) d m l w s sound turn h
-  bounded (S.Repeat' n p a) d m l w s sound turn h = repeat_ends p n a (bounded a) d m l w s sound turn h
-  bounded (S.RepeatUpTo' e n p a) d m l w s sound turn h = counted_ends p e n a (bounded a) d m l w s sound turn h
-  bounded (S.At' offset p a) d m l w s sound turn h = bounded a d m l w s sound turn h
+  -- ---- a `for each` whose turns leave its place and its node alone
+
+  module _ (q u k j r i : Box (Unit {0}) Global) (x c p w : ℕ) (body : Statement) (ones : Bounded body) (alone : leaves_alone body x p ≡ true) (room : x < VALUE_REGISTERS) (few : w < 2 ^ 16) where
+    abbrev next_place : Expression
+    next_place = E.Calculated' O.Add r (E.Value x) i (E.Constant (pos 1))
+
+    abbrev locks : Statement
+    locks = S.Lock' (P.Child c p (E.Value x)) k body j S.Fail
+
+    abbrev one_turn_of : Statement
+    one_turn_of = S.Sequence' q (S.Assign x next_place) u locks
+
+    abbrev place_at : ℕ → ℕ → Option Held
+    place_at home cursor = Some (record { node = home; cursor = cursor })
+
+    assigned : (s : State) (n : ℕ) → value s x ≡ place_before n → n < 2 ^ 16 → behaviour parents (S.Assign x next_place) s ≡ plain On (with_value s x (pos n))
+    assigned s n place lt = ap (λ o. given o s (λ y. plain On (with_value s x y))) (ap (λ y. fitting (y +ℤ pos 1)) place ∙ fits_next n lt)
+
+    abbrev lock_done : Done → Done
+    lock_done l = after_events l.events (if is_on l.outcome then behaviour parents body l.state else behaviour parents S.Fail l.state)
+
+    locked_by : (s : State) (n home cursor : ℕ) → value s x ≡ pos n → node s p ≡ place_at home cursor
+        → lock_place parents (P.Child c p (E.Value x)) s ≡ lock_kid parents c p (record { node = home; cursor = cursor }) (open_kid cursor (length (kids parents home)) (pos n)) s
+    locked_by s n home cursor place there = ap₂ (λ h y. lock_child_by parents c p h y s) there place
+
+    turn_is : (s : State) (n home cursor : ℕ) (o : Option ℕ) → value s x ≡ place_before n → n < 2 ^ 16 → VALUE_REGISTERS ≤ length s.values → node s p ≡ place_at home cursor
+        → open_kid cursor (length (kids parents home)) (pos n) ≡ o
+        → behaviour parents one_turn_of s
+        ≡ after_events [] (leaving (after locks (held_at s)) (lock_done (lock_kid parents c p (record { node = home; cursor = cursor }) o (with_value s x (pos n)))))
+    turn_is s n home cursor o place lt many there opened =
+        let u = with_value s x (pos n) in
+        let here : value u x ≡ pos n = get_or-set_same s.values x (pos n) (pos 0) (omega (arith, room, many)) in
+        ap (λ d. and_then d (behaviour parents locks)) (assigned s n place lt)
+        ∙ ap (λ l. after_events [] (leaving (after locks (held_at s)) (lock_done l)))
+        (locked_by u n home cursor here there ∙ ap (λ o. lock_kid parents c p (record { node = home; cursor = cursor }) o u) opened)
+
+    module _ (d m : ℕ) (b : Bool) (g : Nodes) (sound : IsWellFormed one_turn_of d m g true) (keeps : KeepsHeld (after one_turn_of g) g) (goes : AllTurn body) (long : length g ≡ NODE_REGISTERS) (home count : ℕ)
+        (counts : length (kids parents home) ≡ count) (within : count ≤ w) where
+      abbrev later : Bool
+      later = b || unwrap_or (written body b).after false
+
+      abbrev y : Ways
+      y = written body later
+
+      abbrev z : Ways
+      z = record y { fails = or_of (Some b) y.fails }
+
+      abbrev inside : Nodes
+      inside = also g c
+
+      lock_sound : IsWellFormed locks d m g true
+      lock_sound = sound.1
+
+      empty : holds g c ≡ false
+      empty = lock_sound.0.0
+
+      has : holds g p ≡ true
+      has = lock_sound.0.1
+
+      apart : p ≢ c
+      apart e = absurd (no_both (sym empty ∙ ap (holds g) (sym e) ∙ has))
+
+      -- behind turn n that goes on
+      record IsBehind (n : ℕ) (f : State) : Type 0 where
+        place : value f x ≡ pos n
+        there : node f p ≡ place_at home (n + 1)
+
+      -- a one_turn_of that locks its child
+      module _ (s : State) (n cursor : ℕ) (held : held_at s ≡ g) (here : Here later t s) (place : value s x ≡ place_before n) (lt : n < count) (there : node s p ≡ place_at home cursor)
+          (opened : open_kid cursor (length (kids parents home)) (pos n) ≡ Some n) where
+        abbrev one : State
+        one = with_value s x (pos n)
+
+        abbrev two : State
+        two = with_node (with_node one p (place_at home (n + 1))) c (Some (record { node = slice_index (kids parents home) n; cursor = 0 }))
+
+        abbrev locked_by_it : List Action
+        locked_by_it = (lock_kid parents c p (record { node = home; cursor = cursor }) (Some n) one).events
+
+        abbrev ran : Done
+        ran = behaviour parents body two
+
+        abbrev done : Done
+        done = leaving (after locks g) (after_events locked_by_it ran)
+
+        is_done : behaviour parents one_turn_of s ≡ after_events [] done
+        is_done =
+            turn_is s n home cursor (Some n) place (omega (arith, few, within, lt)) here.values there opened
+            ∙ ap (λ h. after_events [] (leaving (after locks h) (lock_done (lock_kid parents c p (record { node = home; cursor = cursor }) (Some n) one)))) held
+
+        placed : PlacedBy (also (held_at one) c) one On two
+        placed =
+            subst (Placed (also (held_at one) c) one)
+            (ap (λ o. lock_kid parents c p (record { node = home; cursor = cursor }) o one) opened)
+            (subst (λ h. Placed (also (held_at one) c) one (lock_child_by parents c p h (pos n) one)) there (child_placed parents c p (pos n) one (subst (λ h. holds h p ≡ true) (sym held) has)))
+
+        held_two : held_at two ≡ inside
+        held_two = placed.0 ∙ ap (λ h. also h c) held
+
+        here_two : Here later t two
+        here_two = here_there (Some later) t one two placed.3 placed.1 placed.2 (record { size = here.size; values = longer s x (pos n) here.values; clean = here.clean })
+
+        ended_body : Ends (after body inside) (fails body inside) (breaks body inside) y t ran
+        ended_body =
+            subst (λ h. Ends (after body h) (fails body h) (breaks body h) y t ran) held_two
+            (ones d (c + 1) true later two (subst (λ h. IsWellFormed body d (c + 1) h true) (sym held_two) lock_sound.1) goes here_two)
+
+        keeps_body : Keeps (after body inside) (after locks g) (held_behind (after locks g))
+        keeps_body =
+            keeps_unlocked (P.Child c p (E.Value x)) (after body inside) (both_of (after body inside) None)
+            (keeps_first (after body inside) None (sizes body inside (locked_sized (P.Child c p (E.Value x)) g long)).after (sizes S.Fail g long).after)
+
+        turned : Ends (after one_turn_of g) (fails one_turn_of g) (breaks one_turn_of g) z t done
+        turned =
+            widened (after locks g) (fails body inside) (breaks body inside) (fails one_turn_of g) (breaks one_turn_of g) y z t (λ h e. inr (in_left h (fails body inside) (g ∷ []) e)) (λ h e. in_left h (breaks body inside) [] e)
+            (λ s h. h) (λ s h. here_right (Some b) y.fails t s h) (λ s h. h) done.outcome done.state
+            (left_ends (after body inside) (after locks g) keeps_body (fails body inside) (breaks body inside) y t ran.outcome ran.state (locked_by_it ++ ran.events) ended_body)
+
+        stayed : Stays x p two done.state
+        stayed = left_stays x p (after locks g) two (after_events locked_by_it ran) (stays x p parents body alone two)
+
+        behind : held_at done.state ≡ g → IsBehind n done.state
+        behind same = record {
+          place = stayed.value_is ∙ get_or-set_same s.values x (pos n) (pos 0) (omega (arith, room, here.values));
+          there =
+              let l = held_by done.state.nodes p (subst (λ h. holds h p ≡ true) (sym same) has) in
+              stayed.node_is (λ none. none_of (node done.state p) l.0 (λ h. pos 0) l.1 (ap (λ o. of_node o (λ h. pos 0)) none))
+              ∙ get_or-set_other (slice_set s.nodes p (place_at home (n + 1))) c p (Some (record { node = slice_index (kids parents home) n; cursor = 0 })) None apart
+              ∙ set_found s.nodes p (record { node = home; cursor = cursor }) (place_at home (n + 1)) there;
+        }
+
+      same_turn : (h : Nodes) → after one_turn_of g ≡ Some h → h ≡ g
+      same_turn h e = subst (λ o. KeepsHeld o g) e keeps
+
+      -- the turns behind one_turn_of n
+      past_turn : (n left : ℕ) → ((f : State) → held_at f ≡ g → Here later t f → IsBehind n f → (l : ℕ) → suc l ≡ left → Ends (after one_turn_of g) (fails one_turn_of g) (breaks one_turn_of g) z t (turns left (behaviour parents one_turn_of) f))
+          → (o : Ending) (f : State) (es : List Action) → (held_at f ≡ g → IsBehind n f) → EndsBy (after one_turn_of g) (fails one_turn_of g) (breaks one_turn_of g) z t o f
+          → Ends (after one_turn_of g) (fails one_turn_of g) (breaks one_turn_of g) z t (and_then (record { outcome = o; state = f; events = es }) (turns left (behaviour parents one_turn_of)))
+      past_turn n left more Fails f es is e = e
+      past_turn n left more Breaks f es is e = e
+      past_turn n left more Returns f es is e = tt
+      past_turn n zero more On f es is e = e
+      past_turn n (suc l) more On f es is e =
+          let same = same_turn (held_at f) e.0 in more f same (again (λ v. (written body v).after) b f e.1) (is same) l refl
+
+      one_then : (left n : ℕ) (s : State) (cursor : ℕ) → held_at s ≡ g → Here later t s → value s x ≡ place_before n → node s p ≡ place_at home cursor → n + suc left ≡ count
+          → open_kid cursor (length (kids parents home)) (pos n) ≡ Some n
+          → ((f : State) → held_at f ≡ g → Here later t f → IsBehind n f → (l : ℕ) → suc l ≡ left → Ends (after one_turn_of g) (fails one_turn_of g) (breaks one_turn_of g) z t (turns left (behaviour parents one_turn_of) f))
+          → Ends (after one_turn_of g) (fails one_turn_of g) (breaks one_turn_of g) z t (turns (suc left) (behaviour parents one_turn_of) s)
+      one_then left n s cursor held here place there all opened more =
+          let lt : n < count = omega (arith, all) in
+          let r = done s n cursor held here place lt there opened in
+          subst (λ a. Ends (after one_turn_of g) (fails one_turn_of g) (breaks one_turn_of g) z t (and_then a (turns left (behaviour parents one_turn_of)))) (sym (is_done s n cursor held here place lt there opened))
+          (past_turn n left more r.outcome r.state r.events (behind s n cursor held here place lt there opened) (turned s n cursor held here place lt there opened))
+
+      from_turn : (left n : ℕ) (s : State) (cursor : ℕ) → held_at s ≡ g → Here later t s → value s x ≡ place_before n → node s p ≡ place_at home cursor → n + suc left ≡ count
+          → open_kid cursor (length (kids parents home)) (pos n) ≡ Some n → Ends (after one_turn_of g) (fails one_turn_of g) (breaks one_turn_of g) z t (turns (suc left) (behaviour parents one_turn_of) s)
+      from_turn zero n s cursor held here place there all opened = one_then zero n s cursor held here place there all opened (λ f h i is l e. absurd (omega (arith, e)))
+      from_turn (suc left) n s cursor held here place there all opened =
+          one_then (suc left) n s cursor held here place there all opened
+          (λ f h i is l e. from_turn left (suc n) f (n + 1) h i is.place is.there (omega (arith, all)) (opens_next (length (kids parents home)) n (omega (arith, all, counts))))
+
+      -- all turns, where the first one finds its child passed or not
+      all_turns_of : (left : ℕ) (s : State) (cursor : ℕ) → held_at s ≡ g → Here b t s → value s x ≡ negsuc 0 → node s p ≡ place_at home cursor → suc left ≡ count
+          → Ends (after one_turn_of g) (fails one_turn_of g) (breaks one_turn_of g) z t (turns (suc left) (behaviour parents one_turn_of) s)
+      all_turns_of left s cursor held here place there all = by (open_kid cursor (length (kids parents home)) (pos 0)) refl
+        where
+          wide : Here later t s
+          wide = record { size = here.size; values = here.values; clean = λ f. here.clean (or_parts b (unwrap_or (written body b).after false) f).0 }
+
+          passed : open_kid cursor (length (kids parents home)) (pos 0) ≡ None → Ends (after one_turn_of g) (fails one_turn_of g) (breaks one_turn_of g) z t (turns (suc left) (behaviour parents one_turn_of) s)
+          passed opened =
+              subst (λ a. Ends (after one_turn_of g) (fails one_turn_of g) (breaks one_turn_of g) z t (and_then a (turns left (behaviour parents one_turn_of))))
+              (sym (turn_is s 0 home cursor None place (omega (arith, few)) here.values there opened ∙ ap (λ h. after_events [] (leaving (after locks h) (lock_done (plain Fails (with_value s x (pos 0)))))) held))
+              (inl held, here_left (Some b) y.fails t (with_value s x (pos 0)) (record { size = here.size; values = longer s x (pos 0) here.values; clean = here.clean }))
+
+          by : (o : Option ℕ) → open_kid cursor (length (kids parents home)) (pos 0) ≡ o → Ends (after one_turn_of g) (fails one_turn_of g) (breaks one_turn_of g) z t (turns (suc left) (behaviour parents one_turn_of) s)
+          by None opened = passed opened
+          by (Some n) opened =
+              from_turn left 0 s cursor held wide place there (omega (arith, all)) (opened ∙ ap Some (opens_first cursor (length (kids parents home)) n opened))
+
+      module _ (sized : AnySized (behind_loop true (after one_turn_of g) (breaks one_turn_of g) g)) where
+        abbrev all_of_walk : Option Nodes
+        all_of_walk = behind_loop true (after one_turn_of g) (breaks one_turn_of g) g
+
+        finish_walk : (o : Ending) (s : State) (es : List Action) → EndsBy (after one_turn_of g) (fails one_turn_of g) (breaks one_turn_of g) z t o s
+            → Ends all_of_walk (g ∷ fails one_turn_of g) [] (behind_turns true b y) t (leaving all_of_walk (broken (record { outcome = o; state = s; events = es })))
+        finish_walk Fails s es e = (inr e.0, e.1)
+        finish_walk Returns s es e = tt
+        finish_walk On s es e =
+            let keeps_here : Keeps (Some (held_at s)) all_of_walk (held_behind all_of_walk) = subst (λ h. Keeps (Some h) all_of_walk (held_behind all_of_walk)) (sym (same_turn (held_at s) e.0)) (keeps_end one_turn_of g true refl sized) in
+            left_ends (Some (held_at s)) all_of_walk keeps_here (g ∷ fails one_turn_of g) [] (behind_turns true b y) t On s es (refl, here_right (Some b) (or_of y.after y.breaks) t s (here_left y.after y.breaks t s e.1))
+        finish_walk Breaks s es e =
+            left_ends (Some (held_at s)) all_of_walk (keeps_break one_turn_of g true (held_at s) e.0 sized) (g ∷ fails one_turn_of g) [] (behind_turns true b y) t On s es
+            (refl, here_right (Some b) (or_of y.after y.breaks) t s (here_right y.after y.breaks t s e.1))
+
+        walk_turns : (n : ℕ) (s : State) (cursor : ℕ) → held_at s ≡ g → Here b t s → value s x ≡ negsuc 0 → node s p ≡ place_at home cursor → n ≡ count
+            → Ends all_of_walk (g ∷ fails one_turn_of g) [] (behind_turns true b y) t (leaving all_of_walk (broken (turns n (behaviour parents one_turn_of) s)))
+        walk_turns zero s cursor held here place there all =
+            let keeps_here : Keeps (Some (held_at s)) all_of_walk (held_behind all_of_walk) = subst (λ h. Keeps (Some h) all_of_walk (held_behind all_of_walk)) (sym held) (keeps_end one_turn_of g true refl sized) in
+            left_ends (Some (held_at s)) all_of_walk keeps_here (g ∷ fails one_turn_of g) [] (behind_turns true b y) t On s [] (refl, here_left (Some b) (or_of y.after y.breaks) t s here)
+        walk_turns (suc n) s cursor held here place there all =
+            let r = turns (suc n) (behaviour parents one_turn_of) s in finish_walk r.outcome r.state r.events (all_turns_of n s cursor held here place there all)
+
+    -- the all_of_walk loop, from the place before the first child on
+    walk_ends : (o : Box (Unit {0}) Global) (d m : ℕ) (b : Bool) (s : State) → IsWellFormed (S.RepeatUpTo' (E.Children p) w o one_turn_of) d m (held_at s) true → AllTurn body → Here b t s → value s x ≡ negsuc 0
+        → Ends (after (S.RepeatUpTo' (E.Children p) w o one_turn_of) (held_at s)) (fails (S.RepeatUpTo' (E.Children p) w o one_turn_of) (held_at s)) [] (behind_turns true b (in_turns (written body) b)) t
+        (behaviour parents (S.RepeatUpTo' (E.Children p) w o one_turn_of) s)
+    walk_ends o d m b s sound goes here place = by (node s p) (found.0) (found.1) refl
+      where
+        loop : Statement
+        loop = S.RepeatUpTo' (E.Children p) w o one_turn_of
+
+        g : Nodes
+        g = held_at s
+
+        found : (h : Held) × (node s p ≡ Some h)
+        found = held_by s.nodes p sound.0
+
+        size : length g ≡ NODE_REGISTERS
+        size = held_length s.nodes ∙ here.size
+
+        ways : Ways
+        ways = behind_turns true b (in_turns (written body) b)
+
+        go : ℕ → Done
+        go n = leaving (after loop g) (broken (turns n (behaviour parents one_turn_of) s))
+
+        counted_walk : (h : Held) → node s p ≡ Some h → (f : Bool) → nat_le (length (kids parents h.node)) w ≡ f
+            → Ends (after loop g) (fails loop g) [] ways t (if f then go (length (kids parents h.node)) else plain Fails s)
+        counted_walk h e false f = (inl refl, here_left (Some b) (written body (b || unwrap_or (written body b).after false)).fails t s here)
+        counted_walk h e true f =
+            walk_turns d m b g sound.2 sound.1 goes size h.node (length (kids parents h.node)) refl (leb-true (length (kids parents h.node)) w f) (sizes loop g size).after
+            (length (kids parents h.node)) s h.cursor refl here place e refl
+
+        by : (o : Option Held) (h : Held) → o ≡ Some h → node s p ≡ o
+            → Ends (after loop g) (fails loop g) [] ways t (given (of_node o (λ h. pos (length (kids parents h.node)))) s (λ y. counted w y s go))
+        by None h e f = cc
+        by (Some k) h e f = counted_walk k f (nat_le (length (kids parents k.node)) w) refl
+
+  -- what is proved of the body of a loop over children
+  abbrev BodyBounded : Statement → Type 0
+  BodyBounded (S.RepeatUpTo' e w p a) = BodyBounded a
+  BodyBounded (S.Sequence' p a q b) = BodyBounded b
+  BodyBounded (S.Lock' place p a q o) = Bounded a
+  BodyBounded a = Unit {0}
+
+  walked_ends : (x : ℕ) (a : Statement) → BodyBounded a → is_walk x (E.Constant (negsuc 0)) a ≡ true → (d m : ℕ) (l b : Bool) (s : State) → IsWellFormed a d m (held_at s) l → AllTurn a → Here b t s
+      → value s x ≡ negsuc 0 → Ends (after a (held_at s)) (fails a (held_at s)) (breaks a (held_at s)) (behind_turns true b (in_turns (body_written a) b)) t (behaviour parents a s)
+  walked_ends x (S.RepeatUpTo' (E.Children n) w p (S.Sequence' q step u (S.Lock' place k body j o))) ones h d m l b s sound turn here first =
+      let walk = walk_of x w n step place body o p q u k j (E.Constant (negsuc 0)) h in
+      let one = walk.step_is in
+      let kid = walk.place_is in
+      let same = ap (whole step place) walk.other_is ∙ ap (λ z. whole step z S.Fail) kid.is ∙ ap (λ z. whole z (P.Child kid.child n (E.Value x)) S.Fail) one.is in
+      subst Walked (sym same) (λ sound turn. walk_ends q u k j one.left one.right x kid.child n w body ones walk.alone walk.room walk.few p d m b s sound turn.1.1.0 here first) sound turn
+    where
+      whole : Statement → Place → Statement → Statement
+      whole step place o = S.RepeatUpTo' (E.Children n) w p (S.Sequence' q step u (S.Lock' place k body j o))
+
+      Walked : Statement → Type 0
+      Walked a = IsWellFormed a d m (held_at s) l → AllTurn a → Ends (after a (held_at s)) (fails a (held_at s)) (breaks a (held_at s)) (behind_turns true b (in_turns (body_written a) b)) t (behaviour parents a s)
+  walked_ends x a ones h d m l b s sound turn here first = cc
+
+  let_ends : (p : _) (v : ℕ) (e : Expression) (a : Statement) → Bounded a → BodyBounded a → Bounded (S.Let' v e p a)
+  let_ends p v e a ones inner d m l w s sound turn h = by (is_walk v e a) refl
+    where
+      g : Nodes
+      g = held_at s
+
+      go : ℤ → Done
+      go y = behaviour parents a (with_value s v y)
+
+      size : length g ≡ NODE_REGISTERS
+      size = held_length s.nodes ∙ h.size
+
+      there : (y : ℤ) → Here w t (with_value s v y)
+      there y = record { size = h.size; values = longer s v y h.values; clean = h.clean }
+
+      ends : (x : Ways) → Ends (after a g) (here_if (may_fail e) g ++ fails a g) (breaks a g) (failing_if (may_fail e) w x) t (given (number parents e s) s go)
+          → Ends (after a g) (here_if (may_fail e) g ++ fails a g) (breaks a g) (failing_if (may_fail e) w x) t (behaviour parents (S.Let' v e p a) s)
+      ends x f =
+          let r = given (number parents e s) s go in
+          left_ends (after a g) (after a g) (keeps_itself (after a g) (sizes a g size).after) (here_if (may_fail e) g ++ fails a g) (breaks a g) (failing_if (may_fail e) w x) t r.outcome r.state r.events f
+
+      by : (f : Bool) → is_walk v e a ≡ f
+          → Ends (after a g) (here_if (may_fail e) g ++ fails a g) (breaks a g) (failing_if (may_fail e) w (if f then behind_turns true w (in_turns (body_written a) w) else written a w)) t
+          (behaviour parents (S.Let' v e p a) s)
+      by false same =
+          ends (written a w)
+          (given_ends (number parents e s) (may_fail e) w s go (after a g) (fails a g) (breaks a g) (written a w) t (number_fails parents e d s sound.1) h (λ y. ones (d + 1) m l w (with_value s v y) sound.2 turn (there y)))
+      by true same =
+          let x = behind_turns true w (in_turns (body_written a) w) in
+          let begins = walk_begins v e a same in
+          let first = get_or-set_same s.values v (negsuc 0) (pos 0) (omega (arith, begins.1, h.values)) in
+          ends x
+          (subst (λ e. Ends (after a g) (here_if (may_fail e) g ++ fails a g) (breaks a g) (failing_if (may_fail e) w x) t (given (number parents e s) s go)) (sym begins.0)
+          (walked_ends v a inner (subst (λ e. is_walk v e a ≡ true) begins.0 same) (d + 1) m l w (with_value s v (negsuc 0)) sound.2 turn (there (negsuc 0)) first))
+
+  mutual
+    bounded : (a : Statement) → Bounded a
+    bounded S.Skip d m l w s sound turn h = (refl, h)
+    bounded (S.Sequence' p a q b) d m l w s sound turn h = sequence_ends p q a b (bounded a) (bounded b) d m l w s sound turn h
+    bounded (S.Assign v e) d m l w s sound turn h = assign_ends v e d m l w s sound turn h
+    bounded (S.Write n f e) d m l w s sound turn h = write_ends n f e d m l w s sound turn h
+    bounded (S.Emit e) d m l w s sound turn h = emit_ends e d m l w s sound turn h
+    bounded (S.Free n) d m l w s sound turn h = free_ends n d m l w s sound turn h
+    bounded (S.Descend n e) d m l w s sound turn h = descend_ends n e d m l w s sound turn h
+    bounded (S.Take n k) d m l w s sound turn h = take_ends n k d m l w s sound turn h
+    bounded S.Break d m l w s sound turn h = (inl refl, h)
+    bounded S.Return d m l w s sound turn h = tt
+    bounded S.Fail d m l w s sound turn h = (inl refl, h)
+    bounded (S.If' c p a q b) d m l w s sound turn h = if_ends p q c a b (bounded a) (bounded b) d m l w s sound turn h
+    bounded (S.Let' v e p a) d m l w s sound turn h = let_ends p v e a (bounded a) (body_bounded a) d m l w s sound turn h
+    bounded (S.LetElse' v e p a q o) d m l w s sound turn h = else_ends p q v e a o (bounded a) (bounded o) d m l w s sound turn h
+    bounded (S.Lock' place p a q o) d m l w s sound turn h = lock_ends p q place a o (bounded a) (bounded o) d m l w s sound turn h
+    bounded (S.Try' p a q b) d m l w s sound turn h = try_ends p q a b (bounded a) (bounded b) d m l w s sound turn h
+    bounded (S.Repeat' n p a) d m l w s sound turn h = repeat_ends p n a (bounded a) d m l w s sound turn h
+    bounded (S.RepeatUpTo' e n p a) d m l w s sound turn h = counted_ends p e n a (bounded a) d m l w s sound turn h
+    bounded (S.At' offset p a) d m l w s sound turn h = bounded a d m l w s sound turn h
+
+    body_bounded : (a : Statement) → BodyBounded a
+    body_bounded (S.RepeatUpTo' e w p a) = body_bounded a
+    body_bounded (S.Sequence' p a q b) = body_bounded b
+    body_bounded (S.Lock' place p a q o) = bounded a
+    body_bounded a = tt
 
 -- ---- atomic procedures
 
@@ -660,7 +1005,9 @@ nothing_written parents a d args t sound turn atomic failed =
     let s = start args t in
     let r = behaviour parents a s in
     let empty : Option Held = None in
-    by r.outcome (bounded parents t a d 0 false false s sound turn (record { size = length-replicate NODE_REGISTERS empty; clean = λ e. refl })) failed (written a false).fails refl atomic
+    let fill : List ℤ = replicate (VALUE_REGISTERS - length args) (pos 0) in
+    let enough : VALUE_REGISTERS ≤ length (args ++ fill) = omega (arith, length-append args fill, length-replicate (VALUE_REGISTERS - length args) (pos 0)) in
+    by r.outcome (bounded parents t a d 0 false false s sound turn (record { size = length-replicate NODE_REGISTERS empty; values = enough; clean = λ e. refl })) failed (written a false).fails refl atomic
   where
     by : (o : Ending) → EndsBy (after a none_held) (fails a none_held) (breaks a none_held) (written a false) t o (behaviour parents a (start args t)).state → o ≡ Fails
         → (p : Option Bool) → (written a false).fails ≡ p → IfSome p (λ w. w ≡ false) → (behaviour parents a (start args t)).state.records ≡ t

@@ -20,6 +20,8 @@ pub mod SimpleRuns
 pub mod StatementRuns
 pub mod Steps
 pub mod TryRuns
+pub mod WalkForms
+pub mod Walks
 pub mod WayRuns
 pub mod WriteRuns
 mod Rows

@@ -74,7 +74,7 @@ left kept d e = by d.outcome refl
 failed_writes : (parents : List ℕ) {names : Names} {t : ℕ} {ws : List Write} {done whole : Statement} → AreWritten names t ws done whole → OnlyWrites done → (m : ℕ) (in_loop : Bool) (s : State)
     → IsWellFormed whole t m (held_at s) in_loop → (behaviour parents whole s).outcome ≡ Fails → (behaviour parents whole s).events ≡ []
 failed_writes parents {t = t} all_computed w m in_loop s sound e = let on = sym (writes_go parents w t m (held_at s) in_loop s refl sound).0.on ∙ e in cc
-failed_writes parents (next_computed {t = t} {e = x} {body = body} u lt has then rest) w m in_loop s sound e =
+failed_writes parents (next_computed {t = t} {e = x} {body = body} u apart lt has then rest) w m in_loop s sound e =
     let before = left _ (given (number parents x s) s (λ v. behaviour parents body (with_value s t v))) e in
     before.1 ∙ by (number parents x s) (λ v f. failed_writes parents rest (one_more w) m in_loop (with_value s t v) sound.2 f) before.0
   where

@@ -42,6 +42,9 @@ pub enum Wrong {
     /// 274: more than 64 nested levels.
     #[error("more than 64 levels in one another")]
     TooDeep,
+    /// 274: more than 80 blocks in one another, those of parts where they are used.
+    #[error("more than 80 blocks in one another, with those of the parts that are used here")]
+    Blocks,
     /// 274: a part in four others.
     #[error("more than four parts in one another")]
     PartDepth,
@@ -105,6 +108,9 @@ pub enum Wrong {
     /// 288: `break` outside a loop.
     #[error("break outside a loop")]
     NoLoop,
+    /// 298: a field of a node that the same statement writes already.
+    #[error("this statement writes the field already: the first number would be lost")]
+    WrittenTwice,
     /// 299: a failure that may follow a write, in a procedure that is marked by `atomic`.
     #[error("a field may have been written before this fails: an atomic procedure computes first, and then writes")]
     WrittenBefore,
@@ -120,6 +126,9 @@ pub enum Wrong {
     /// 294: parts that are too long where they are used.
     #[error("with this part, the parts of the text have more than 262144 words and signs where they are used")]
     PartSize,
+    /// 294: more statements than a text may have.
+    #[error("with these, the text has more than 262144 statements, each counted once for each block around it, and those of a part at each use")]
+    Statements,
 }
 
 impl Wrong {
@@ -140,7 +149,7 @@ impl Wrong {
             | Wrong::NoElse
             | Wrong::NoBound
             | Wrong::PartReturns => 273,
-            Wrong::TooDeep | Wrong::PartDepth => 274,
+            Wrong::TooDeep | Wrong::Blocks | Wrong::PartDepth => 274,
             Wrong::Unknown => 275,
             Wrong::Twice => 276,
             Wrong::NoNumber
@@ -160,11 +169,12 @@ impl Wrong {
             Wrong::ElseEnds => 286,
             Wrong::Unreached => 287,
             Wrong::NoLoop => 288,
+            Wrong::WrittenTwice => 298,
             Wrong::WrittenBefore => 299,
             Wrong::Values => 291,
             Wrong::Nodes => 292,
             Wrong::LoopDepth => 293,
-            Wrong::PartSize => 294,
+            Wrong::PartSize | Wrong::Statements => 294,
         }
     }
 }

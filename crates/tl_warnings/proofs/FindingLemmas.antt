@@ -4,11 +4,12 @@ use Rattle.std.proofs.Common.{◌≡◌, ℕ, ◌+◌, ◌<◌, ◌≤◌, List,
 use Rattle.tl_syntax.specs.declared.parsed.Name.{Name}
 use Rattle.tl_syntax.specs.declared.parsed.Statement.{Statement}
 use Rattle.tl_syntax.specs.declared.parsed.Procedure.{Procedure}
+use Rattle.tl_syntax.specs.declared.parsed.Question.{Question}
 use Rattle.tl_syntax.specs.declared.parsed.Parameter.{Parameter}
 use Rattle.tl_syntax.specs.declared.parsed.Part.{Part}
 use Rattle.tl_syntax.specs.declared.parsed.Declaration.{Declaration}
 use Rattle.tl_warnings.specs.declared.warning.Warning.{Warning}
-use Rattle.tl_warnings.specs.Finding.{BlockWarns, no_statements, next_statement, StatementWarns, ValueWarns, NamedWarns, ArgumentWarns, ArgumentsWarn, more_arguments, ParameterWarns, ParametersWarn, more_parameters, DeclarationWarns, DeclarationsWarn, more_declarations}
+use Rattle.tl_warnings.specs.Finding.{BlockWarns, no_statements, next_statement, StatementWarns, ValueWarns, NamedWarns, AskedWarns, ArgumentWarns, ArgumentsWarn, more_arguments, ParameterWarns, ParametersWarn, more_parameters, DeclarationWarns, DeclarationsWarn, more_declarations}
 use Rattle.tl_warnings.proofs.ListLemmas.{taken_more, left_next, left_none}
 
 pub block_at : {ss ts : List Statement} {ws vs us : List Warning} → ss ≡ ts → ws ≡ vs → BlockWarns ss ws us → BlockWarns ts vs us
@@ -16,6 +17,9 @@ block_at {ss} {ts} {ws} {vs} {us} is same block = subst (λ z. BlockWarns ts z u
 
 pub named_at : {ss ts : List Statement} {ws vs : List Warning} {m n : Option Name} → ss ≡ ts → m ≡ n → NamedWarns ss ws m vs → NamedWarns ts ws n vs
 named_at {ss} {ts} {ws} {vs} {m} {n} is same named = subst (λ z. NamedWarns ts ws z vs) same (subst (λ z. NamedWarns z ws m vs) is named)
+
+pub asked_at : {q : Question} {ss ts : List Statement} {ws vs : List Warning} → ss ≡ ts → AskedWarns ss ws q vs → AskedWarns ts ws q vs
+asked_at {q} {ws = ws} {vs = vs} is = subst (λ z. AskedWarns z ws q vs) is
 
 pub value_at : {name : Name} {ss ts : List Statement} {ws vs : List Warning} → ss ≡ ts → ValueWarns name ss ws vs → ValueWarns name ts ws vs
 value_at {name} {ws = ws} {vs = vs} is = subst (λ z. ValueWarns name z ws vs) is

@@ -6,7 +6,14 @@ use Rattle.tl_syntax.specs.declared.parsed.Name.{Name}
 use Rattle.tl_syntax.specs.declared.parsed.Expression.{Expression}
 use Rattle.tl_syntax.specs.declared.parsed.Action.{Action}
 use Rattle.tl_syntax.specs.declared.parsed.Action.TheVariants as A
+use Rattle.tl_syntax.specs.declared.parsed.Change.{Change}
+use Rattle.tl_syntax.specs.declared.parsed.Child.{Child}
+use Rattle.tl_syntax.specs.declared.parsed.Leave.{Leave}
+use Rattle.tl_syntax.specs.declared.parsed.Place.{Place}
+use Rattle.tl_syntax.specs.declared.parsed.Place.TheVariants as L
 use Rattle.tl_syntax.specs.declared.parsed.Question.{Question}
+use Rattle.tl_syntax.specs.declared.parsed.Question.TheVariants as Q
+use Rattle.tl_syntax.specs.declared.parsed.Write.{Write}
 use Rattle.tl_syntax.specs.declared.parsed.Otherwise.{Otherwise, out-Otherwise}
 use Rattle.tl_syntax.specs.declared.parsed.Statement.{Statement}
 use Rattle.tl_syntax.specs.declared.parsed.StatementForm.{StatementForm}
@@ -23,6 +30,7 @@ use Rattle.tl_warnings.specs.declared.warning.Needless.TheVariants as N
 use Rattle.tl_warnings.specs.declared.warning.Warning.{Warning}
 use Rattle.tl_warnings.specs.Reading.{BlockReads}
 use Rattle.tl_warnings.specs.Failing.{ActionFails, BlockFails}
+use Rattle.tl_warnings.specs.Walking.{BlockWalks}
 
 -- one warning more, unless the thing is needed
 abbrev pub unless : Bool → Needless → ℕ → List Warning → List Warning
@@ -43,6 +51,31 @@ abbrev pub declared : Action → Option Name
 declared (A.Let name e) = Some name
 declared a = None
 
+-- what is locked, whose names are known in these statements
+pub data PlaceWarns (known : List Statement) (ws : List Warning) : Place → List Warning → Type 0 where
+  one_node : {name : Name} {offset : ℕ} {e : Expression} {us : List Warning} → BlockWalks name.symbol.0 false known ws us → PlaceWarns known ws (L.Node name offset e) us
+  one_child : {c : Child} {us : List Warning} → BlockWalks c.name.symbol.0 false known ws us → PlaceWarns known ws (L.Child c) us
+  two_children : {c d : Child} {vs us : List Warning} → BlockWalks c.name.symbol.0 false known ws vs → BlockWalks d.name.symbol.0 false known vs us → PlaceWarns known ws (L.Pair c d) us
+
+-- the nodes that an action locks for the rest of its block
+pub data LockedWarns (rest : List Statement) (ws : List Warning) : Action → List Warning → Type 0 where
+  lets : {name : Name} {e : Expression} → LockedWarns rest ws (A.Let name e) ws
+  assigns : {name : Name} {change : Change} {e : Expression} → LockedWarns rest ws (A.Assign name change e) ws
+  writes : {w : Write} {xs : Vec Write Global} → LockedWarns rest ws (A.Write w xs) ws
+  emits : {es : Vec Expression Global} → LockedWarns rest ws (A.Emit es) ws
+  requires : {e : Expression} → LockedWarns rest ws (A.Require e) ws
+  locks : {p : Place} {us : List Warning} → PlaceWarns rest ws p us → LockedWarns rest ws (A.Lock p) us
+  descends : {name : Name} {e : Expression} → LockedWarns rest ws (A.Descend name e) ws
+  takes : {name from : Name} → LockedWarns rest ws (A.Take name from) ws
+  frees : {name : Name} → LockedWarns rest ws (A.Free name) ws
+  leaves : {leave : Leave} → LockedWarns rest ws (A.Leave leave) ws
+  uses : {name : Name} {es : Vec Expression Global} → LockedWarns rest ws (A.Use name es) ws
+
+-- the nodes that an `if` locks for its first block
+pub data AskedWarns (body : List Statement) (ws : List Warning) : Question → List Warning → Type 0 where
+  condition : {e : Expression} → AskedWarns body ws (Q.Condition e) ws
+  lock : {p : Place} {us : List Warning} → PlaceWarns body ws p us → AskedWarns body ws (Q.Lock p) us
+
 mutual
   pub data BlockWarns : List Statement → List Warning → List Warning → Type 0 where
     no_statements : {ws : List Warning} → BlockWarns [] ws ws
@@ -51,16 +84,17 @@ mutual
 
   -- a statement at this offset, with the rest of its block behind it
   pub data StatementWarns : ℕ → StatementForm → List Statement → List Warning → List Warning → Type 0 where
-    act : {offset : ℕ} {a : Action} {o : Option Otherwise} {rest : List Statement} {r : Bool} {ws vs us : List Warning} →
-        NamedWarns rest ws (declared a) vs → ActionFails a r → ElseWarns r o vs us → StatementWarns offset (T.Act a o) rest ws us
+    act : {offset : ℕ} {a : Action} {o : Option Otherwise} {rest : List Statement} {r : Bool} {ws vs us ts : List Warning} →
+        NamedWarns rest ws (declared a) vs → LockedWarns rest vs a us → ActionFails a r → ElseWarns r o us ts → StatementWarns offset (T.Act a o) rest ws ts
     try : {offset : ℕ} (xs ys : Vec Statement Global) {rest : List Statement} {r : Bool} {ws vs us : List Warning} →
         BlockFails xs.items r → BlockWarns xs.items (unless r N.Try offset ws) vs → BlockWarns ys.items vs us → StatementWarns offset (T.Try xs ys) rest ws us
-    if : {offset : ℕ} {q : Question} (xs ys : Vec Statement Global) {rest : List Statement} {ws vs us : List Warning} →
-        BlockWarns xs.items ws vs → BlockWarns ys.items vs us → StatementWarns offset (T.If q xs ys) rest ws us
+    if : {offset : ℕ} {q : Question} (xs ys : Vec Statement Global) {rest : List Statement} {ws vs us ts : List Warning} →
+        AskedWarns xs.items ws q vs → BlockWarns xs.items vs us → BlockWarns ys.items us ts → StatementWarns offset (T.If q xs ys) rest ws ts
     repeat : {offset : ℕ} {turns : Expression} {most : Option Expression} (xs : Vec Statement Global) {rest : List Statement} {ws vs : List Warning} →
         BlockWarns xs.items ws vs → StatementWarns offset (T.Repeat turns most xs) rest ws vs
-    for_each : {offset : ℕ} {child parent : Name} {index : Option Name} {most : Expression} (xs : Vec Statement Global) {rest : List Statement} {ws vs us : List Warning} →
-        NamedWarns xs.items ws index vs → BlockWarns xs.items vs us → StatementWarns offset (T.ForEach child index parent most xs) rest ws us
+    for_each : {offset : ℕ} {child parent : Name} {index : Option Name} {most : Expression} (xs : Vec Statement Global) {rest : List Statement} {ws vs us ts : List Warning} →
+        NamedWarns xs.items ws index vs → BlockWalks child.symbol.0 false xs.items vs us → BlockWarns xs.items us ts →
+        StatementWarns offset (T.ForEach child index parent most xs) rest ws ts
     block_alone : {offset : ℕ} (xs : Vec Statement Global) {rest : List Statement} {ws vs : List Warning} →
         BlockWarns xs.items ws vs → StatementWarns offset (T.Block xs) rest ws vs
 
@@ -95,7 +129,7 @@ pub record ProcedureWarns (p : Procedure) (ws us : List Warning) : Type 0 where
 
 -- a name for what a part is given; a node that nothing uses is given all the same
 pub data ParameterWarns (p : Part) (ws : List Warning) : Parameter → List Warning → Type 0 where
-  node_parameter : {name : Name} → ParameterWarns p ws (P.Node name) ws
+  node_parameter : {name : Name} {vs : List Warning} → BlockWalks name.symbol.0 false p.body.items ws vs → ParameterWarns p ws (P.Node name) vs
   value_parameter : {name : Name} {vs : List Warning} → ValueWarns name p.body.items ws vs → ParameterWarns p ws (P.Value name) vs
 
 -- its first parameters

@@ -1,3 +1,6 @@
-pub mod Reading
 pub mod Failing
 pub mod Finding
+pub mod Locking
+pub mod Passing
+pub mod Reading
+pub mod Walking

@@ -1,14 +1,17 @@
 // The warnings of a text, in its order.
 
-ghost use Rattle.std.specs.Prelude.{◌≡◌, IfOk, OnOk};
-ghost use Rattle.tl_warnings.specs.Finding.{unless as unless_lem, ValueWarns, NamedWarns, declared as declared_lem, BlockWarns, StatementWarns, ElseWarns, ArgumentWarns, ArgumentsWarn, else_warned, ProcedureWarns, ParameterWarns, ParametersWarn, PartWarns, DeclarationWarns, DeclarationsWarn, AreWarnings};
+ghost use Rattle.std.specs.Prelude.{◌≡◌, false, IfOk, OnOk};
+ghost use Rattle.tl_warnings.specs.Walking.{BlockWalks};
+ghost use Rattle.tl_warnings.specs.Finding.{unless as unless_lem, ValueWarns, NamedWarns, declared as declared_lem, PlaceWarns, LockedWarns, AskedWarns, BlockWarns, StatementWarns, ElseWarns, ArgumentWarns, ArgumentsWarn, else_warned, ProcedureWarns, ParameterWarns, ParametersWarn, PartWarns, DeclarationWarns, DeclarationsWarn, AreWarnings};
 
 use crate::failing::{action_may_fail, block_may_fail};
 use crate::reading::block_reads;
+use crate::walking::block_walks;
 use crate::warning::{Needless, Warning};
 use std::alloc::{AllocError, Global};
 use tl_syntax::parsed::{
-    Action, Declaration, Name, Otherwise, Parameter, Part, Procedure, Statement, StatementForm,
+    Action, Declaration, Name, Otherwise, Parameter, Part, Place, Procedure, Question, Statement,
+    StatementForm,
 };
 use tl_syntax::{Syntax, SyntaxFault, parse};
 
@@ -59,6 +62,59 @@ fn declared(action: &Action) -> Option<Name>
     }
 }
 
+// A node, whose name is known in these statements.
+fn node(name: Name, known: &[Statement], found: &mut Vec<Warning>) -> Result<(), AllocError>
+    ensures { OnOk result (BlockWalks name.symbol.0 false known.now found.old.items found.new.items) }
+{
+    block_walks(name.symbol, known, false, found)
+}
+
+fn placed(place: &Place, known: &[Statement], found: &mut Vec<Warning>) -> Result<(), AllocError>
+    ensures { OnOk result (PlaceWarns known.now found.old.items place.now found.new.items) }
+{
+    match place {
+        Place::Node { name, .. } => node(*name, known, found),
+        Place::Child(child) => node(child.name, known, found),
+        Place::Pair(first, second) => {
+            node(first.name, known, found)?;
+            node(second.name, known, found)
+        }
+    }
+}
+
+// The nodes that an action locks for the rest of its block.
+fn locked(action: &Action, rest: &[Statement], found: &mut Vec<Warning>) -> Result<(), AllocError>
+    ensures { OnOk result (LockedWarns rest.now found.old.items action.now found.new.items) }
+{
+    match action {
+        Action::Let { .. } => Ok(()),
+        Action::Assign { .. } => Ok(()),
+        Action::Write(_, _) => Ok(()),
+        Action::Emit(_) => Ok(()),
+        Action::Require(_) => Ok(()),
+        Action::Lock(place) => placed(place, rest, found),
+        Action::Descend { .. } => Ok(()),
+        Action::Take { .. } => Ok(()),
+        Action::Free(_) => Ok(()),
+        Action::Leave(_) => Ok(()),
+        Action::Use { .. } => Ok(()),
+    }
+}
+
+// The nodes that an `if` locks for its first block.
+fn asked(
+    question: &Question,
+    body: &[Statement],
+    found: &mut Vec<Warning>,
+) -> Result<(), AllocError>
+    ensures { OnOk result (AskedWarns body.now found.old.items question.now found.new.items) }
+{
+    match question {
+        Question::Condition(_) => Ok(()),
+        Question::Lock(place) => placed(place, body, found),
+    }
+}
+
 #[cycle(finding)]
 fn block(statements: &[Statement], found: &mut Vec<Warning>) -> Result<(), AllocError>
     ensures { OnOk result (BlockWarns statements.now found.old.items found.new.items) }
@@ -80,6 +136,7 @@ fn statement(
     match &statement.form {
         StatementForm::Act(action, otherwise) => {
             named(declared(action), rest, found)?;
+            locked(action, rest, found)?;
             else_of(action_may_fail(action), otherwise, found)
         }
         StatementForm::Try(body, handler) => {
@@ -88,13 +145,20 @@ fn statement(
             block(body, found)?;
             block(handler, found)
         }
-        StatementForm::If(_, body, otherwise) => {
+        StatementForm::If(question, body, otherwise) => {
+            asked(question, body, found)?;
             block(body, found)?;
             block(otherwise, found)
         }
         StatementForm::Repeat { body, .. } => block(body, found),
-        StatementForm::ForEach { index, body, .. } => {
+        StatementForm::ForEach {
+            child,
+            index,
+            body,
+            ..
+        } => {
             named(*index, body, found)?;
+            node(*child, body, found)?;
             block(body, found)
         }
         StatementForm::Block(body) => block(body, found),
@@ -164,12 +228,12 @@ fn procedure(procedure: &Procedure, found: &mut Vec<Warning>) -> Result<(), Allo
     block(&procedure.otherwise, found)
 }
 
-// A number that a part is given. The name of a node may stay unused.
+// A number that a part is given, or a node, whose name may stay unused.
 fn parameter(part: &Part, parameter: Parameter, found: &mut Vec<Warning>) -> Result<(), AllocError>
     ensures { OnOk result (ParameterWarns part.now found.old.items parameter found.new.items) }
 {
     match parameter {
-        Parameter::Node(_) => Ok(()),
+        Parameter::Node(name) => node(name, &part.body, found),
         Parameter::Value(name) => value(name, &part.body, found),
     }
 }
@@ -211,7 +275,8 @@ fn declarations(all: &[Declaration], found: &mut Vec<Warning>) -> Result<(), All
 }
 
 /// What a text doesn't need, in the order of the text: each argument, number that a part is given, value of a `let` and index of a loop that nothing reads; each `else` of a
-/// statement, a declaration or a procedure, and each `try`, where nothing can fail before it.
+/// statement, a declaration or a procedure, and each `try`, where nothing can fail before it. Where a node's name is declared, each
+/// loop over its children that may not go through all, since one may be locked before its turn.
 ///
 /// Otherwise the first fault of the text's tokens or grammar. Names are not looked up.
 pub fn warnings(alloc: Global, text: &[u8]) -> Result<Vec<Warning>, SyntaxFault>

@@ -27,7 +27,7 @@ fn reads(value: Symbol, expression: &Expression) -> bool
     }
 }
 
-fn any_reads(value: Symbol, expressions: &[Expression]) -> bool
+pub fn any_reads(value: Symbol, expressions: &[Expression]) -> bool
     ensures { AnyReads value.0 expressions.now result }
 {
     let mut found = false;

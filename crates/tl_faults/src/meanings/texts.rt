@@ -169,7 +169,7 @@ pub fn from_205_to_275(number: u16) -> Option<Meaning> {
         274 => Some(Meaning {
             parts: ", line, column",
             name: "too deep",
-            when: "this would open a 65th level of blocks, parentheses and operators, or a fifth part in one another",
+            when: "this would open a 65th level of blocks, parentheses and operators, a fifth part in one another, or with the blocks of parts an 81st block",
             advice: "give a part of the expression a name by `let`, or take blocks apart",
         }),
         275 => Some(Meaning {
@@ -235,7 +235,7 @@ pub fn from_276_to_289(number: u16) -> Option<Meaning> {
         284 => Some(Meaning {
             parts: ", line, column",
             name: "loop without turns",
-            when: "the node's children were locked or gone through before, so the loop would find none",
+            when: "the node's children were locked or gone through before, so the loop would fail",
             advice: "go through the children once",
         }),
         285 => Some(Meaning {
@@ -301,8 +301,8 @@ pub fn from_290_to_299(number: u16) -> Option<Meaning> {
         294 => Some(Meaning {
             parts: ", line, column",
             name: "text too long",
-            when: "the procedure has more than 1,024 instructions, and the place is where most of them come from; or the parts of the text have more than 262,144 words and signs, counted at each use",
-            advice: "split the procedure",
+            when: "the procedure has more than 1,024 instructions, and the place is where most of them come from; or the parts of the text have more than 262,144 words and signs, counted at each use, where 16 names of the text count as one more; or there are more than 262,144 statements, each counted once for each block around it, and those of a part at each use",
+            advice: "split the procedure, or the text",
         }),
         295 => Some(Meaning {
             parts: ", line, column",
@@ -321,6 +321,12 @@ pub fn from_290_to_299(number: u16) -> Option<Meaning> {
             name: "too many emits",
             when: "the procedure may emit more than 32 values: an `emit` in loops counts as often as they may turn, all bounds multiplied; the place is where most of them come from",
             advice: "remember what was found, `break`, and emit it behind the loop; or let the loops turn less often",
+        }),
+        298 => Some(Meaning {
+            parts: ", line, column",
+            name: "field twice",
+            when: "the statement writes this field of the node already",
+            advice: "write the sum of both, or take two statements",
         }),
         299 => Some(Meaning {
             parts: ", line, column",

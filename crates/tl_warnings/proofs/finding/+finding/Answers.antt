@@ -2,8 +2,9 @@ use Rattle.std.proofs.Common.{refl, arith}
 use Rattle.std.proofs.lemmas.Result.{on_ok_weaker}
 use Rattle.tl_warnings.specs.Finding.{act, try, if, repeat, for_each, block_alone, no_else, some_else}
 use Rattle.tl_warnings.proofs.FailingLemmas.{block_at as fails_at}
-use Rattle.tl_warnings.proofs.FindingLemmas.{block_at, named_at, block_next, block_end}
+use Rattle.tl_warnings.proofs.FindingLemmas.{asked_at, block_at, named_at, block_next, block_end}
 use Rattle.tl_warnings.proofs.ListLemmas.{all_left}
+use Rattle.tl_warnings.proofs.WalkingLemmas.{block_at as walks_at}
 use Rattle.tl_warnings.proofs.finding.+finding.Goals as goal
 
 pub else_of-returns-in_ok-unless-in-Some : goal.else_of-returns-in_ok-unless-in-Some
@@ -13,9 +14,9 @@ else_of-returns-in_ok-unless-in-Some t c =
 pub else_of-returns-in-None : goal.else_of-returns-in-None
 else_of-returns-in-None t c = rw c.in-None.is no_else
 
-pub statement-returns-in_ok-named-in-Act : goal.statement-returns-in_ok-named-in-Act
-statement-returns-in_ok-named-in-Act t c =
-    rw c.in-Act.is (on_ok_weaker c.else_of.result (λ w. act (named_at refl c.declared.ensures c.in_ok-named-in-Act.ensures) c.action_may_fail.ensures w) c.else_of.ensures)
+pub statement-returns-in_ok-locked-in-Act : goal.statement-returns-in_ok-locked-in-Act
+statement-returns-in_ok-locked-in-Act t c =
+    rw c.in-Act.is (on_ok_weaker c.else_of.result (λ w. act (named_at refl c.declared.ensures c.in_ok-named-in-Act.ensures) c.in_ok-locked-in-Act.ensures c.action_may_fail.ensures w) c.else_of.ensures)
 
 pub statement-returns-in_ok-block-in-Try : goal.statement-returns-in_ok-block-in-Try
 statement-returns-in_ok-block-in-Try t c =
@@ -26,16 +27,18 @@ statement-returns-in_ok-block-in-Try t c =
 pub statement-returns-in_ok-block-in-If : goal.statement-returns-in_ok-block-in-If
 statement-returns-in_ok-block-in-If t c =
     rw c.in-If.is (on_ok_weaker c.block-in-If-2.result (λ w.
-    if c.in-If.body c.in-If.otherwise (block_at c.deref-in-If.ensures.value refl c.in_ok-block-in-If.ensures) (block_at c.deref-in-If-2.ensures.value refl w)) c.block-in-If-2.ensures)
+    if c.in-If.body c.in-If.otherwise (asked_at c.deref-in-If.ensures.value c.in_ok-asked-in-If.ensures) (block_at c.deref-in-If-2.ensures.value refl c.in_ok-block-in-If.ensures)
+    (block_at c.deref-in-If-3.ensures.value refl w)) c.block-in-If-2.ensures)
 
 pub statement-returns-in-Repeat : goal.statement-returns-in-Repeat
 statement-returns-in-Repeat t c =
     rw c.in-Repeat.is (on_ok_weaker c.block-in-Repeat.result (λ w. repeat c.in-Repeat.body (block_at c.deref-in-Repeat.ensures.value refl w)) c.block-in-Repeat.ensures)
 
-pub statement-returns-in_ok-named-in-ForEach : goal.statement-returns-in_ok-named-in-ForEach
-statement-returns-in_ok-named-in-ForEach t c =
+pub statement-returns-in_ok-node-in-ForEach : goal.statement-returns-in_ok-node-in-ForEach
+statement-returns-in_ok-node-in-ForEach t c =
     rw c.in-ForEach.is (on_ok_weaker c.block-in-ForEach.result (λ w.
-    for_each c.in-ForEach.body (named_at c.deref-in-ForEach.ensures.value refl c.in_ok-named-in-ForEach.ensures) (block_at c.deref-in-ForEach-2.ensures.value refl w)) c.block-in-ForEach.ensures)
+    for_each c.in-ForEach.body (named_at c.deref-in-ForEach.ensures.value refl c.in_ok-named-in-ForEach.ensures) (walks_at c.deref-in-ForEach-2.ensures.value refl c.in_ok-node-in-ForEach.ensures)
+    (block_at c.deref-in-ForEach-3.ensures.value refl w)) c.block-in-ForEach.ensures)
 
 pub statement-returns-in-Block : goal.statement-returns-in-Block
 statement-returns-in-Block t c =

@@ -12,7 +12,7 @@ use Rattle.tl_lowering.specs.Repeating.{IsRepetition}
 use Rattle.tl_lowering.specs.Scopes.{View, view_of, IsAt, IsLowered}
 use Rattle.tl_lowering.specs.Sound.{IsWellFormed}
 use Rattle.tl_lowering.proofs.DescendLemmas.{turns_begin, same_turn}
-use Rattle.tl_lowering.proofs.PutLemmas.{block_is_no_break, block_is_no_walk}
+use Rattle.tl_lowering.proofs.PutLemmas.{block_is_no_walk}
 use Rattle.tl_lowering.proofs.BodyLemmas.{on_ok, then_flow, same_draft, same_behind, back, loop_back, at_as, at_known, same_repetition}
 use Rattle.tl_lowering.proofs.DepthLemmas.{weight, falls_in_else, falls_in_repeat, falls_in_try, falls_in_handler, falls_in_first, falls_in_second, falls_in_visit, falls_in_block, falls_in_part}
 use Rattle.tl_lowering.proofs.DraftLemmas.{none_read, none_behind, extended_paths, extended_draft, opened_paths, opened_draft, block_lowered}
@@ -323,14 +323,6 @@ handled-returns-clause-entering t c =
 pub first_block-returns-clause-entering : goal.first_block-returns-clause-entering
 first_block-returns-clause-entering t c = λ entrance. entering_as (c.in_ok-inside.ensures.entered entrance) refl c.in_ok-first.ensures.entering
 
-pub refusal-returns-clause-block : goal.refusal-returns-clause-block
-refusal-returns-clause-block t c = block_is_no_break c.in_ok-statement.ensures.named
-
-pub statement-chosen-requires-clause-block : goal.statement-chosen-requires-clause-block
-statement-chosen-requires-clause-block t c = block_is_no_break c.in_ok-second-in-If.ensures.named
-
--- ---- parts
-
 pub acted-returns-in-Use-clause-named : goal.acted-returns-in-Use-clause-named
 acted-returns-in-Use-clause-named t c = rw c.in-Use.is (ok_more c.used.result _ _ c.used.ensures.named (λ l h plain. used_action c.in-Use.arguments c.deref.ensures.value h))
 
@@ -343,7 +335,7 @@ used-given-requires t c =
     let scope = c.args.self.now.scope in
     let outer : c.replace-outer.result ≡ scope = c.replace-outer.ensures.value ∙ c.enter_part.ensures in
     let inner : c.replace-outer.new.dest ≡ c.in_ok-inner.inner = c.replace-outer.ensures.after in
-    let names : names_of c.in_ok-inner.inner ≡ inside (names_of scope) = c.in_ok-inner.ensures.named ∙ ap (λ (s : Scope). inside (names_of s)) c.enter_part.ensures in
+    let names : names_of c.in_ok-inner.inner ≡ inside c.in_ok-part.index (names_of scope) = c.in_ok-inner.ensures.named ∙ ap (λ (s : Scope). inside c.in_ok-part.index (names_of s)) c.enter_part.ensures in
     let values : c.in_ok-inner.inner.values ≡ scope.values = ap (λ (n : Names). n.values) names in
     let nodes : c.in_ok-inner.inner.nodes ≡ scope.nodes = ap (λ (n : Names). n.nodes) names in (
       falls_in_part t c.args.before.now _ c.in_ok-part.index c.in_ok-part.part.now c.deref.result.now c.deref-2.result.now c.decreases c.in_ok-part.ensures.part (search rules) c.deref.ensures.value
@@ -359,7 +351,7 @@ used-returns-clause-named t c =
     let scope = c.args.self.now.scope in
     let outer : c.replace-outer.result ≡ scope = c.replace-outer.ensures.value ∙ c.enter_part.ensures in
     let inner : c.replace-outer.new.dest ≡ c.in_ok-inner.inner = c.replace-outer.ensures.after in
-    let names : names_of c.in_ok-inner.inner ≡ inside (names_of scope) = c.in_ok-inner.ensures.named ∙ ap (λ (s : Scope). inside (names_of s)) c.enter_part.ensures in
+    let names : names_of c.in_ok-inner.inner ≡ inside c.in_ok-part.index (names_of scope) = c.in_ok-inner.ensures.named ∙ ap (λ (s : Scope). inside c.in_ok-part.index (names_of s)) c.enter_part.ensures in
     record {
       index = c.in_ok-part.index;
       part = c.in_ok-part.part.now;
@@ -373,8 +365,8 @@ pub used-returns-clause-lowered : goal.used-returns-clause-lowered
 used-returns-clause-lowered t c =
     let scope = c.args.self.now.scope in
     let inner : c.replace-outer.new.dest ≡ c.in_ok-inner.inner = c.replace-outer.ensures.after in
-    let names : names_of c.replace-outer.new.dest ≡ inside (names_of scope) =
-    ap names_of inner ∙ c.in_ok-inner.ensures.named ∙ ap (λ (s : Scope). inside (names_of s)) c.enter_part.ensures in
+    let names : names_of c.replace-outer.new.dest ≡ inside c.in_ok-part.index (names_of scope) =
+    ap names_of inner ∙ c.in_ok-inner.ensures.named ∙ ap (λ (s : Scope). inside c.in_ok-part.index (names_of s)) c.enter_part.ensures in
     lowered_in_loops (view_of c.replace-outer.new.dest) (view_of scope) c.args.held (ap (λ (n : Names). n.values) names) (ap (λ (n : Names). n.nodes) names) (ap (λ (n : Names). n.loops) names) c.in_ok-lowered.ensures.lowered
 
 pub given-given-requires : goal.given-given-requires

@@ -47,4 +47,4 @@ returns-in-Some-clause-entering c =
 pub returns-in_ok-declare-in-Nodes-clause-entering : goal.returns-in_ok-declare-in-Nodes-clause-entering
 returns-in_ok-declare-in-Nodes-clause-entering c =
     let refusal = c.refused-statement.ensures.refusal (view_of c.args.self.now.scope) c.requires.otherwise in
-    nodes_entering c.in-Nodes.locking (rw c.in-Nodes.is at c.requires.entering) (c.refused-statement.ensures.entering c.requires.refused) (c.refused-statement.ensures.block c.requires.block) refusal.ends c.going_on-flow.ensures.entered
+    nodes_entering c.in-Nodes.locking (rw c.in-Nodes.is at c.requires.entering) (c.refused-statement.ensures.entering c.requires.refused) refusal.ends c.going_on-flow.ensures.entered

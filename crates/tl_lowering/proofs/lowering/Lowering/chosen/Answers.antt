@@ -38,4 +38,4 @@ returns-in-Condition-clause-entering c =
 pub returns-in-Lock-clause-entering : goal.returns-in-Lock-clause-entering
 returns-in-Lock-clause-entering c =
     lock_entering c.in-Lock.locking (chooses_lock c.in-Lock.locking c.in_ok-first.ensures c.in_ok-second.ensures) (rw c.in-Lock.is at c.requires.entering) (rw c.in-Lock.is at c.requires.first_entering)
-    c.requires.second_entering c.requires.block (c.or-flow-in-Lock.ensures.entered ∙ ap (λ x. either_entered x (entered_of c.args.second.1)) c.keeping.ensures.entered)
+    c.requires.second_entering (c.or-flow-in-Lock.ensures.entered ∙ ap (λ x. either_entered x (entered_of c.args.second.1)) c.keeping.ensures.entered)

@@ -11,6 +11,7 @@ returns-clause-named c = record {
   node = c.in_ok-node.node;
   field = c.in_ok-node.field;
   update = c.in_ok-node.ensures.named;
+  apart = c.in_ok-node.ensures.apart;
   room = c.in-Some.ensures.valid.0 refl;
   temporaries = has_temporaries c.in_ok-node.number _ _ _ c.from.ensures c.registers_of-needed.ensures c.in_ok-check_registers.ensures;
   behind =

@@ -23,7 +23,7 @@ loop-index-preserved c =
     elim c.match-declaration.branch [
       | in-Field+in_ok-declare_field-in-Field w ↦
           let same : to_z w32 (of_z w32 w.in-Field.number) ≡ w.in-Field.number = search rules in
-          let field = subst (λ n. IsWithField (names_of c.loop-index.self.scope) w.in-Field.name n (names_of w.declare_field.new.self.scope)) same w.in_ok-declare_field-in-Field.ensures.named in
+          let field = subst (λ n. IsWithField i (names_of c.loop-index.self.scope) w.in-Field.name n (names_of w.declare_field.new.self.scope)) same w.in_ok-declare_field-in-Field.ensures.named in
           rw (w.self-is, w.procedures-is) (record {
             named = field_more (names_of w.declare_field.new.self.scope) ps xs i x (omega arith) c.index-declarations-index.is so_far.named w.in-Field.is field;
             bare = w.in_ok-declare_field-in-Field.ensures.bare;
@@ -32,7 +32,7 @@ loop-index-preserved c =
       | in-Constant+in_ok-check_new-in-Constant+in_ok-number-in-Constant w ↦
           let number = w.in_ok-number-in-Constant.number in
           let same : to_z w32 (of_z w32 number) ≡ number = search rules in
-          let constant = subst (λ n. names_of w.declare_constant.new.self ≡ with_constant (names_of c.loop-index.self.scope) w.in-Constant.name n) same w.declare_constant.ensures.named in
+          let constant = subst (λ n. names_of w.declare_constant.new.self ≡ with_constant (names_of c.loop-index.self.scope) w.in-Constant.name n i) same w.declare_constant.ensures.named in
           rw (w.self-is, w.procedures-is) (record {
             named = constant_more (names_of w.declare_constant.new.self) ps xs i x (omega arith) c.index-declarations-index.is so_far.named w.in-Constant.is w.in_ok-check_new-in-Constant.ensures w.in_ok-number-in-Constant.ensures constant;
             bare = record {

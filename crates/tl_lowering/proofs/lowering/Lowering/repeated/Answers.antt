@@ -18,7 +18,7 @@ returns-in_ok-boxed-in-Times c = record {
       c.in_ok-boxed-in-Times.ensures (rw c.in-Times.is at c.requires.turn) c.join-turned.ensures.nodes c.leaving.ensures.paths;
   entering =
       let start = c.args.start in
-      times_entering (rw c.in-Times.is at c.requires.before) (rw c.in-Times.is at c.requires.entering) (keeps_out c.args.lowered.1 start c.args.held (ap (λ (b : Before). b.entered) c.requires.before) c.requires.once) c.requires.block (turns_times c.in_ok-boxed-in-Times.ensures)
+      times_entering (rw c.in-Times.is at c.requires.before) (rw c.in-Times.is at c.requires.entering) (keeps_out c.args.lowered.1 start c.args.held (ap (λ (b : Before). b.entered) c.requires.before) c.requires.once) (turns_times c.in_ok-boxed-in-Times.ensures)
       (c.leaving.ensures.entered ∙ ap (λ o. record { after = o; fails = entered_at c.args.lowered.1.fails; breaks = None }) c.join-turned.ensures.entered);
 }
 
@@ -33,7 +33,7 @@ returns-in_ok-boxed-in-UpTo c = record {
       (c.leaving-in-UpTo.ensures.paths ∙ ap (λ f. record { after = keeping h (known c.join-after.result); fails = f; breaks = None }) c.join.ensures.nodes);
   entering =
       let e = before_of c.args.held in
-      up_to_entering (rw c.in-UpTo.is at c.requires.before) (rw c.in-UpTo.is at c.requires.entering) (keeps_out c.args.lowered.1 c.args.start c.args.held (ap (λ (b : Before). b.entered) c.requires.before) c.requires.once) (turns_up_to c.in_ok-boxed-in-UpTo.ensures)
+      up_to_entering (rw c.in-UpTo.is at c.requires.before) (rw c.in-UpTo.is at c.requires.entering) (keeps_out c.args.lowered.1 c.args.start c.args.held (ap (λ (b : Before). b.entered) c.requires.before) c.requires.once) c.requires.block (turns_up_to c.in_ok-boxed-in-UpTo.ensures)
       (c.leaving-in-UpTo.ensures.entered
       ∙ ap₂ (λ x y. record { after = x; fails = y; breaks = None }) (c.join-after.ensures.entered ∙ ap (or_of (Some e)) c.join-turned.ensures.entered) c.join.ensures.entered);
 }
@@ -48,12 +48,12 @@ returns-in_ok-whole-in-Children c = record {
       let turn = rw c.in-Children.is at c.requires.turn in
       lowered_walk scope c.args.held c.args.lowered.0 c.args.lowered.1 c.leaving-in-Children.result (known c.join-after-in-Children.result) c.in-Children.visit c.in_ok-whole-in-Children.whole
       (c.in_ok-whole-in-Children.ensures.walk c.args.held (is_in_loop scope) c.requires.at visit turn.turn) turn
-      (c.join-after-in-Children.ensures.nodes ∙ ap (λ z. both_of (Some z) (known c.join-turned.result)) (c.visiting-in-Children.ensures.nodes ∙ c.requires.start) ∙ ap (both_of (Some h)) c.join-turned.ensures.nodes)
+      (c.join-after-in-Children.ensures.nodes ∙ ap (λ z. both_of (Some z) (known c.join-turned.result)) c.visiting-in-Children.ensures.nodes ∙ ap (both_of (Some h)) c.join-turned.ensures.nodes)
       (c.leaving-in-Children.ensures.paths ∙ ap (λ f. record { after = keeping h (known c.join-after-in-Children.result); fails = f; breaks = None }) (c.join-in-Children.ensures.nodes ∙ ap (λ z. both_of (Some z) (known c.args.lowered.1.fails)) c.requires.start));
   entering =
       let start = c.args.start in
-      let passed = with_node (passed_of start) c.in-Children.visit.parent in
-      let left : before_of c.visiting-in-Children.result ≡ record { entered = start.is_entered; passed = passed } =
+      let passed = with_node (passed_of c.args.held) c.in-Children.visit.parent in
+      let left : before_of c.visiting-in-Children.result ≡ record { entered = c.args.held.is_entered; passed = passed } =
       ap₂ (λ e p. record { entered = e; passed = p }) c.visiting-in-Children.ensures.entered c.visiting-in-Children.ensures.passed in
       walk_entering c.in-Children.visit (rw c.in-Children.is at c.requires.before) (rw c.in-Children.is at c.requires.entering)
       (keeps_out c.args.lowered.1 start c.args.held (ap (λ (b : Before). b.entered) c.requires.before) c.requires.once) (rw c.in-Children.is at c.requires.fresh) c.in_ok-whole-in-Children.ensures.named

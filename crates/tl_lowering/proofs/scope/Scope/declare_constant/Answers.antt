@@ -2,4 +2,4 @@ use Rattle.tl_lowering.proofs.ScopeLemmas.{constant_in_use, same_numbers}
 use Rattle.tl_lowering.proofs.scope.Scope.declare_constant.Goals as goal
 
 pub returns-clause-in_use : goal.returns-clause-in_use
-returns-clause-in_use c = λ h. same_numbers _ _ _ _ _ _ (constant_in_use _ _ _ c.args.name.symbol.0 _ h) c.set.ensures.values c.set.ensures.nodes c.set.ensures.meanings
+returns-clause-in_use c = λ h. same_numbers _ _ _ _ _ _ (constant_in_use _ _ _ c.args.name.symbol.0 _ _ h) c.set.ensures.values c.set.ensures.nodes c.set.ensures.meanings
