@@ -1,0 +1,64 @@
+"""Texts of the procedure language that people would write, in tests/procedures: which are taken, at which place the others are refused, and what some of them do on a small tree."""
+
+import json
+
+from running import TOP
+
+FOLDER = TOP / "tests/procedures"
+TAKEN = """
+    atomic_bulk_write atomic_bulk_write_by_try bom_one_level lease ledger_two_subtrees part_and_a_later_constant part_that_gives_nothing_back queue_ring quota_any_depth
+    reservation_expiry search_by_while search_sorted sum_behind_a_condition three_way_split top3_one_pass top_k_in_passes versioned
+""".split()
+# The number of the fault, its line and its column.
+REFUSED = {
+    "bom_recursive": [275, 4, 39],
+    "children_listed": [297, 4, 44],
+    "constant_as_field_or_bound": [273, 2, 11],
+    "follow_a_reference": [282, 10, 14],
+    "least_number_behind_an_operator": [271, 1, 21],
+    "one_field_twice": [298, 4, 19],
+    "part_named_while": [273, 2, 20],
+    "part_with_a_later_field": [275, 1, 20],
+    "pick_order_four_lines": [279, 2, 53],
+    "place_of_299": [299, 5, 5],
+    "search_natural": [297, 6, 30],
+    "three_way_split_nine_arguments": [279, 2, 51],
+}
+# Where a loop may not go through all children, and `check` says so.
+WARNED = {"sum_behind_a_condition": "line 7, column 5", "top_k_in_passes": "line 9, column 9"}
+# The arguments, the reply, and the fields of the records that are others afterwards. The node 0 has three children, whose first field is 5, 9 and 7.
+CALLS = [
+    ("atomic_bulk_write", [0, 4], [1], {1: [4], 2: [4], 3: [4]}),
+    ("atomic_bulk_write_by_try", [0, 4], [1], {1: [4], 2: [4], 3: [4]}),
+    ("part_that_gives_nothing_back", [50], [50], {}),
+    ("search_by_while", [0, 7], [2], {}),
+    ("sum_behind_a_condition", [0, 0], [21], {}),
+    # The first child is held, so the loop can't lock it: it fails, and the call ends there.
+    ("sum_behind_a_condition", [0, 1], [], {1: [5, 1]}),
+    ("top3_one_pass", [0], [1, 9, 2, 7, 0, 5], {}),
+    ("top_k_in_passes", [0, 1], [1, 9], {}),
+    # The second pass can't lock the children again.
+    ("top_k_in_passes", [0, 3], [1, 9], {}),
+]
+
+
+def test_each_text_is_judged(tests):
+    names = {path.stem for path in FOLDER.glob("*.tdb")}
+    tests.same("each text has a row", {*TAKEN, *REFUSED}, names)
+    for name in sorted(names):
+        run = tests.run("check", FOLDER / f"{name}.tdb")
+        answer = json.loads(run.out)
+        if name in REFUSED:
+            tests.check(f"{name} is refused", (run.status, answer) == (1, {"error": REFUSED[name]}), run)
+        else:
+            tests.check(f"{name} is taken", run.status == 0 and isinstance(answer, list), run)
+            tests.check(f"{name}: the warnings of loops", (": the loop may not go through all" in run.err) == (name in WARNED) and WARNED.get(name, "") in run.err, run)
+
+
+def test_what_they_do(tests):
+    tree = json.loads((FOLDER / "tree.json").read_text())
+    for name, arguments, reply, changed in CALLS:
+        run = tests.run("alone", "--tree", FOLDER / "tree.json", "--proc", FOLDER / f"{name}.tdb", "--args", json.dumps(arguments))
+        answer, left = map(json.loads, run.out.splitlines())
+        records = [[*changed.get(node, []), *record[len(changed.get(node, [])):]] for node, record in enumerate(tree["records"])]
+        tests.check(f"{name} {arguments}", run.status == 0 and answer["reply"] == reply and left["records"] == records, run)
