@@ -144,7 +144,7 @@ class Texts:
         if not scope.nodes or not scope.writes:
             return None
         writes = [(self.chance.choice(scope.nodes), self.chance.randrange(FIELDS), self.chance.choice(["=", "+=", "-="]), self.number(scope, 1)) for _ in range(self.chance.choice([1, 1, 1, 2, 3]))]
-        return ("write", writes, self.own_else(scope))
+        return ("write", once_each(writes), self.own_else(scope))
 
     def emitted(self, scope, _):
         count = self.chance.choice([1, 1, 2])
@@ -244,13 +244,18 @@ class Texts:
         if atomic:
             scope.writes = True
             writes = [(node, self.chance.randrange(FIELDS), "=", self.number(scope, 1)) for _ in range(self.chance.randrange(1, 4))]
-            body += [("write", writes, None), ("emit", [("field", node, 0)], None)]
+            body += [("write", once_each(writes), None), ("emit", [("field", node, 0)], None)]
         other = None
         if self.often(0.5):
             last = Scope(arguments, writes=not atomic)
             last.emits = scope.emits
             other = self.block(last, 2)
         return Procedure(arguments, body, other, atomic)
+
+
+def once_each(writes):
+    """The writes of a statement, which may write each field of a node once."""
+    return [*{write[:2]: write for write in writes}.values()]
 
 
 class Part:
