@@ -1,6 +1,6 @@
 // What a server with a store opens with.
 
-ghost use Rattle.std.specs.Prelude.{◌≡◌, ◌≢◌, ◌↔◌, ◌≤◌, [], true, Some, None, Err, IsSome, IsTrue, IfOk};
+ghost use Rattle.std.specs.Prelude.{◌≡◌, ◌≢◌, ◌↔◌, ◌≤◌, [], true, Some, None, Err, IsSome, IsTrue, IfOk, IfSome};
 ghost use Rattle.sqlite_store.specs.FileStore.{view};
 ghost use Rattle.sqlite_trees.specs.View.{IsClean, doubt};
 ghost use Rattle.tl_core.specs.Cores.{CoreValue, opened};
@@ -12,6 +12,7 @@ ghost use Rattle.tl_ledger.specs.News.{after_founding};
 ghost use Rattle.tl_ledger.specs.declared.founding.Founding.{Founding};
 ghost use Rattle.tl_store_commands.specs.Beginning.{IsFirst, BeginsWith, Resumes, TakesUp};
 ghost use Rattle.tl_store_laws.specs.Growing.{IsLedgerOf};
+ghost use Rattle.tl_store_file.specs.declared.opening.Found.TheVariants.{Store as There};
 
 use crate::journal::FileJournal;
 use crate::refusal::StoreRefusal;
@@ -144,7 +145,7 @@ fn is_unfounded<D: Disk + Drop>(
     }
 }
 
-// What a store has, or the tree where it has no rows.
+// What a store has, or the tree where it has no rows. Of a store that has the rows of a core that one is taken up.
 fn begin_on<D: Disk + Drop>(
     alloc: Global,
     rested: Rested<D>,
@@ -153,6 +154,9 @@ fn begin_on<D: Disk + Drop>(
     ensures retaken { IfOk result (λ r. IsSome r.1 ↔ (tree ≡ None)) }
     ensures no_tree { result ≡ Err NoTree → tree ≡ None }
     ensures has_tree { result ≡ Err HasTree → IsSome tree }
+    ensures begins { IfOk result (λ r. IsClean (view r.0.ledger.store) → IfSome tree (λ t. BeginsWith t r.0.core (view r.0.ledger.store).committed)) }
+    ensures resumes { IfOk result (λ r. tree ≡ None → IsClean (view r.0.ledger.store) → (c : Contents) (v : CoreValue) → Holds (view rested.store).committed c → IsReached v → IsLedgerOf c v
+        → Resumes v r.0.core (view r.0.ledger.store).committed r.0.ledger.marks) }
 {
     match (is_unfounded(alloc, rested)?, tree) {
         ((true, rested), Some(tree)) => Ok((make_in(alloc, rested, tree)?, None)),
@@ -165,7 +169,8 @@ fn begin_on<D: Disk + Drop>(
     }
 }
 
-// What files hold, or the tree where they hold nothing yet.
+// What files hold, or the tree where they hold nothing yet. Of a store that has the rows of a core that one is taken up; otherwise the store has those of
+// the tree's core.
 fn begin_in<D: Disk + Drop>(
     alloc: Global,
     found: Found<D>,
@@ -174,6 +179,9 @@ fn begin_in<D: Disk + Drop>(
     ensures retaken { IfOk result (λ r. IsSome r.1 ↔ (tree ≡ None)) }
     ensures no_tree { result ≡ Err NoTree → tree ≡ None }
     ensures has_tree { result ≡ Err HasTree → IsSome tree }
+    ensures begins { IfOk result (λ r. IsClean (view r.0.ledger.store) → IfSome tree (λ t. BeginsWith t r.0.core (view r.0.ledger.store).committed)) }
+    ensures resumes { IfOk result (λ r. tree ≡ None → IsClean (view r.0.ledger.store) → (rested : _) → found ≡ There rested → (c : Contents) (v : CoreValue)
+        → Holds (view rested.store).committed c → IsReached v → IsLedgerOf c v → Resumes v r.0.core (view r.0.ledger.store).committed r.0.ledger.marks) }
 {
     match (found, tree) {
         (Found::Blank(blank), Some(tree)) => Ok((make_in(alloc, blank.make()?, tree)?, None)),
