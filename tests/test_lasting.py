@@ -411,7 +411,9 @@ def without_memory(tests, library, number):
     (answers, run), was_refused = refusing.refused(library, number, False, run)
     name = f"allocation {number} of a server refused"
     if answers is None:
-        tests.check(f"{name}: it doesn't start", run.status == 4, run)
+        # A file that can't be made for want of memory is one that can't be written.
+        is_unwritten = run.status == 3 and run.out == lines({"error": [32]}) and "out of memory" in run.err
+        tests.check(f"{name}: it doesn't start", run.status == 4 or is_unwritten, run)
         return was_refused
     replies = [answer["reply"] for answer in answers if "reply" in answer]
     tests.check(f"{name}: each call finds what the one before left", replies == [[8 + 3 * place] for place in range(len(replies))], answers)
