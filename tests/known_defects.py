@@ -17,6 +17,7 @@ class Row(NamedTuple):
 
 
 ROWS: list[Row] = [
+    Row("lasting::hand_over_without_memory", r"^allocation \d+ of a server refused: it answers, and stops$", "a server to which memory was refused where it begins may answer at its control no more, so that `treedb stop` waits", is_always_met=False),
     Row("power::cuts", r"^a power cut of a first start: a store is made or none is there$", "a first start that a power cut breaks off leaves a file that no start takes", is_always_met=False),
 ]
 

@@ -5,6 +5,7 @@ import json
 import re
 import shutil
 import socket
+import subprocess
 
 import refusing
 from running import Threads, chance, free_port
@@ -391,8 +392,14 @@ def test_growth_as_far_as_asked(tests):
 OUT_OF_MEMORY = {290, 390, 490, 690, 790, 890, 990}
 
 
+# So many seconds has a server to which memory was refused for an answer, and to stop.
+SOON = 30
+
+
 def without_memory(tests, library, number):
     """A server that hands over after each epoch, to which the allocation of that number is refused. Whether it came to that."""
+    name = f"allocation {number} of a server refused"
+
     def run(**named):
         try:
             with serving(tests, "--generation", "1", "--trails", folder(tests, f"without-{number}"), connections=None, **named) as server:
@@ -400,16 +407,21 @@ def without_memory(tests, library, number):
                 # A server that ends before it reads a line resets the connection, or refuses it.
                 with contextlib.suppress(ConnectionError):
                     peer = Peer(server.port)
+                    peer.socket.settimeout(SOON)
                     for line in (ADD, *(CALL, SEAL) * 3, CALL):
                         answers.append(json.loads(peer.ask(line) or "{}"))
                     peer.close()
-                server.stop()
+                subprocess.run([tests.program, "stop", "--port", str(server.control)], capture_output=True, timeout=SOON, check=False)
                 return answers, server.end()
         except NotStarted as refused:
             return None, refused.run
+        except (TimeoutError, subprocess.TimeoutExpired) as late:
+            return None, late
 
     (answers, run), was_refused = refusing.refused(library, number, False, run)
-    name = f"allocation {number} of a server refused"
+    tests.check(f"{name}: it answers, and stops", not isinstance(run, Exception), run)
+    if isinstance(run, Exception):
+        return was_refused
     if answers is None:
         # A file that can't be made for want of memory is one that can't be written.
         is_unwritten = run.status == 3 and run.out == lines({"error": [32]}) and "out of memory" in run.err
