@@ -1,4 +1,5 @@
 pub mod AtomicRuns
+pub mod AtomicSteps
 pub mod CallRuns
 pub mod ChoiceRuns
 pub mod ConditionRuns
