@@ -15,6 +15,7 @@ syntax match tdbSoft /\<\(each\|of\|at most\|to\)\>/
 syntax match tdbChoice /\<while\>\(\s*\([+-]\?=\|\.\)\)\@!/
 syntax match tdbDeclaration /\<atomic\ze\s\+proc\>/
 syntax match tdbDeclaration /\<part\ze\s\+\h\w*\s*(/
+syntax match tdbDeclaration /[(,]\s*\zsvar\ze\s\+\h/
 syntax match tdbNumber /\<\d\+\(_\d\+\)*\>/
 syntax match tdbName /\<\(proc\|part\)\s\+\zs\h\w*/
 syntax match tdbField /\.\zs\h\w*/

@@ -18,7 +18,7 @@ use Rattle.tl_lowering.specs.declared.program.Statement.{Statement}
 use Rattle.tl_lowering.specs.declared.program.Statement.TheVariants as S
 use Rattle.tl_lowering.specs.Names.{Names, with_values, with_place}
 use Rattle.tl_lowering.specs.Naming.{calculated, then, IsHalved, none, one, more, AreEmits, no_emits, next_emit, AreWritten, all_computed, next_computed, IsWritten, one_write, several_writes, IsAction, assigns, writes, emits, requires, descends, takes, frees, breaks, returns, fails}
-use Rattle.tl_lowering.specs.Reading.{IsAtOffset, at, IsTried, tried, IsVisiting, visiting, IsBlock, block, AreStatements, no_more, next, let_rest, let_else, lock_rest, lock_else, IsStatement, IsActed, plain, used, IsGiven, all_given, node_given, value_given, act, act_else, try, if, if_lock, repeat, repeat_up_to, for_each, block_alone, IsBody, IsProcedure, AreDeclared, none_declared, next_field, next_constant, next_procedure, next_part, IsProgram}
+use Rattle.tl_lowering.specs.Reading.{IsAtOffset, at, IsTried, tried, IsVisiting, visiting, IsBlock, block, AreStatements, no_more, next, let_rest, let_else, lock_rest, lock_else, IsStatement, IsActed, plain, used, IsGiven, all_given, node_given, variable_given, value_given, act, act_else, try, if, if_lock, repeat, repeat_up_to, for_each, block_alone, IsBody, IsProcedure, AreDeclared, none_declared, next_field, next_constant, next_procedure, next_part, IsProgram}
 use Rattle.tl_lowering.specs.Sound.{IsInOrder}
 use Rattle.tl_compiler.specs.Rooms.{IsNumbered, IsReady}
 
@@ -102,6 +102,7 @@ mutual
       IsNumbered s names.values
   in_given (all_given b) = in_block b
   in_given (node_given {a = a} argument g rest) = subst (λ (n : Names). IsNumbered a n.values) g.later_is (in_given rest)
+  in_given (variable_given {a = a} argument g rest) = subst (λ (n : Names). IsNumbered a n.values) g.later_is (in_given rest)
   in_given (value_given {a = a} argument g rest) = (refl, subst (λ (n : Names). IsNumbered a n.values) g.later_is (in_given rest))
 
 in_body : {before : List Declaration} {names : Names} {text : TextProcedure} {s : Statement} → IsBody before names text s → IsNumbered s names.values

@@ -21,10 +21,10 @@ use Rattle.tl_syntax.proofs.AlikeParts.{alike_itself, question_itself, action_ra
 use Rattle.tl_lowering.specs.declared.program.Statement.{Statement}
 use Rattle.tl_lowering.specs.Alike.{same_constant, same_value, same_children, same_operation, same_child, SameStatement, same_sequence, same_assign, same_fail, same_if, same_let, same_let_else, same_lock, same_try, same_repeat, same_repeat_up_to, same_at, AllSame, none_same, more_same}
 use Rattle.tl_lowering.specs.Drafts.{opens}
-use Rattle.tl_lowering.specs.Giving.{IsNodeGiven}
-use Rattle.tl_lowering.specs.Names.{Names, stands_for, index_of, inside, with_alias, in_loop, with_index, with_value, with_node}
+use Rattle.tl_lowering.specs.Giving.{IsNodeGiven, IsVariableGiven, IsValueGiven}
+use Rattle.tl_lowering.specs.Names.{Names, stands_for, index_of, inside, with_alias, with_variable, in_loop, with_index, with_value, with_node}
 use Rattle.tl_lowering.specs.Naming.{calculated, IsAction, assigns, writes, emits, requires, descends, takes, frees, breaks, returns, fails, then, declares}
-use Rattle.tl_lowering.specs.Reading.{IsAtOffset, at, IsTried, tried, IsVisiting, visiting, IsBlock, block, AreStatements, no_more, next, let_rest, let_else, lock_rest, lock_else, IsStatement, IsActed, plain, used, IsGiven, all_given, node_given, value_given, act, act_else, try, if, if_lock, repeat, repeat_up_to, for_each, block_alone}
+use Rattle.tl_lowering.specs.Reading.{IsAtOffset, at, IsTried, tried, IsVisiting, visiting, IsBlock, block, AreStatements, no_more, next, let_rest, let_else, lock_rest, lock_else, IsStatement, IsActed, plain, used, IsGiven, all_given, node_given, variable_given, value_given, act, act_else, try, if, if_lock, repeat, repeat_up_to, for_each, block_alone}
 use Rattle.tl_lowering.proofs.AlikeLemmas.{alike_number, alike_condition, alike_count, alike_place, same_names, alike_halved, alike_action}
 
 -- ---- a text that has a core form is like itself
@@ -58,6 +58,7 @@ given_itself : {before : List Declaration} {outer names : Names} {ps : List Para
     → AlikeStatements body body
 given_itself (all_given b) = block_itself b
 given_itself (node_given argument g rest) = given_itself rest
+given_itself (variable_given argument g rest) = given_itself rest
 given_itself (value_given argument g rest) = given_itself rest
 
 -- ---- parts
@@ -102,6 +103,16 @@ same_given {outer} {names} {name = name} {e = e} {f = f} s g h =
     let meanings = sym g.node_is ∙ ap (stands_for outer) called ∙ h.node_is in
     let registers : g.register ≡ h.register = cc in
     g.later_is ∙ ap (with_alias names name) registers ∙ sym h.later_is
+
+-- a value that is given is the same
+same_variable : {outer names a b : Names} {name : Name} {e f : TextExpression} → AlikeForm e.form f.form → IsVariableGiven outer names name e a → IsVariableGiven outer names name f b → a ≡ b
+same_variable {outer} {names} {name = name} {e = e} {f = f} s g h =
+    let forms : AlikeForm (F.Named g.called) (F.Named h.called) = subst (AlikeForm (F.Named g.called)) h.form_is (subst (λ z. AlikeForm z f.form) g.form_is s) in
+    let same = same_plain (omega arith) forms in
+    let called : g.called ≡ h.called = cc in
+    let meanings = sym g.value_is ∙ ap (stands_for outer) called ∙ h.value_is in
+    let registers : g.register ≡ h.register = cc in
+    g.later_is ∙ ap (with_variable names name) registers ∙ sym h.later_is
 
 -- ---- parts of blocks
 
@@ -306,6 +317,9 @@ mutual
   alike_given parts no_values s (all_given g) (all_given h) = alike_block parts s g h
   alike_given {later = after} {outer} parts (more_values x k) s (node_given {later = m} {parameters = ps} {a = a} argument g rest) (node_given {later = n} {arguments = bs} {body = body} {a = b} argument2 h more) =
       let same : IsGiven after outer m ps bs body b = subst (λ z. IsGiven after outer z ps bs body b) (sym (same_given x g h)) more in
+      alike_given parts k s rest same
+  alike_given {later = after} {outer} parts (more_values x k) s (variable_given {later = m} {parameters = ps} {a = a} argument g rest) (variable_given {later = n} {arguments = bs} {body = body} {a = b} argument2 h more) =
+      let same : IsGiven after outer m ps bs body b = subst (λ z. IsGiven after outer z ps bs body b) (sym (same_variable x g h)) more in
       alike_given parts k s rest same
   alike_given {later = after} {outer} parts (more_values x k) s (value_given {later = m} {parameters = ps} argument g rest) (value_given {later = n} {arguments = bs} {body = body} {a = b} argument2 h more) =
       let same : IsGiven after outer m ps bs body b = subst (λ z. IsGiven after outer z ps bs body b) (sym (g.later_is ∙ sym h.later_is)) more in

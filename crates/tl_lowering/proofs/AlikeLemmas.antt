@@ -1,5 +1,6 @@
 -- Alike numbers, conditions, places and actions of a text have the same core form, except for the memory that its parts occupy.
 use Rattle.std.proofs.Common.{◌≡◌, ◌∙◌, ℕ, zero, suc, ◌/◌, List, [], ◌∷◌, ◌++◌, length, take, drop, Option, Some, ℤ, pos, refl, sym, ap, ap₂, subst, arith}
+use Rattle.std.specs.Prelude.{int_div, int_rem}
 use Rattle.std.proofs.lemmas.List.{same_from_push}
 use Rattle.tl_syntax.specs.declared.operator.Operator.{Operator}
 use Rattle.tl_syntax.specs.declared.operator.Operator.TheVariants as O
@@ -24,33 +25,40 @@ use Rattle.tl_lowering.specs.declared.program.Place.{Place}
 use Rattle.tl_lowering.specs.declared.program.Statement.{Statement}
 use Rattle.tl_lowering.specs.Alike.{SameNumber, same_constant, same_value, same_field, same_children, same_operation, SameCondition, same_less, same_greater, same_equal, same_not, same_and, SamePlace, same_node, same_child, same_pair, SameStatement, same_skip, same_sequence, same_assign, same_write, same_emit, same_free, same_descend, same_take, same_break, same_return, same_fail, same_if, same_let, AllSame, none_same, more_same}
 use Rattle.tl_lowering.specs.Names.{Names, stands_for, field_named, with_node, with_place}
-use Rattle.tl_lowering.specs.Naming.{IsCalculated, calculated, IsNumber, number, constant, value, index, field, children, negated, operation, folded, IsConstant, written, known, opposed, combined, IsCount, count, constant_count, IsNot, opposite, IsBoth, together, IsComparison, IsCondition, comparison, negation, conjunction, disjunction, IsPlace, node, child, pair, IsThen, then, IsHalved, none, one, more, IsChanged, AreEmits, no_emits, next_emit, IsUpdate, AreWritten, all_computed, next_computed, IsWritten, one_write, several_writes, IsAction, assigns, writes, emits, requires, descends, takes, frees, breaks, returns, fails}
+use Rattle.tl_lowering.specs.Naming.{IsCalculated, calculated, IsNumber, number, constant, is_narrow, IsLiteral, short_number, long_number, value, index, field, children, negated, operation, folded, IsConstant, written, known, opposed, combined, IsCount, count, IsNot, opposite, IsBoth, together, IsComparison, IsCondition, comparison, negation, conjunction, disjunction, IsPlace, node, child, pair, IsThen, then, IsHalved, none, one, more, IsChanged, AreEmits, no_emits, next_emit, IsUpdate, AreWritten, all_computed, next_computed, IsWritten, one_write, several_writes, IsAction, assigns, writes, emits, requires, descends, takes, frees, breaks, returns, fails}
 
 -- ---- numbers and conditions
 
 number_of : {o r : Operator} {a b c d e f : Expression} → o ≡ r → SameNumber a c → SameNumber b d → IsCalculated o a b e → IsCalculated r c d f → SameNumber e f
 number_of same x y calculated calculated = same_operation same x y
 
+literal_of : {v w : ℤ} {e f : Expression} → v ≡ w → IsLiteral v e → IsLiteral w f → SameNumber e f
+literal_of same (short_number b) (short_number c) = same_constant same
+literal_of same (short_number b) (long_number c l m n) = let e = ap is_narrow same in cc
+literal_of same (long_number c l m n) (short_number b) = let e = ap is_narrow same in cc
+literal_of same (long_number b i c d) (long_number e l m n) =
+    number_of refl (number_of refl (literal_of (ap (λ z. int_div z (pos 65536)) same) i l) (same_constant refl) c m) (same_constant (ap (λ z. int_rem z (pos 65536)) same)) d n
+
 pub alike_number : {names : Names} {form other : Form} {e f : Expression} → AlikeForm form other → IsNumber names form e → IsNumber names other f → SameNumber e f
-alike_number s number number = let same = same_plain (omega arith) s in same_constant cc
-alike_number {names} s (constant {name = x} g) (constant {name = y} h) =
-    let same = same_plain (omega arith) s in let n : x ≡ y = cc in let w = sym g ∙ ap (stands_for names) n ∙ h in same_constant cc
-alike_number {names} s (constant {name = x} g) (value {name = y} h) =
+alike_number s (number l) (number m) = let same = same_plain (omega arith) s in literal_of (cc) l m
+alike_number {names} s (constant {name = x} g l) (constant {name = y} h m) =
+    let same = same_plain (omega arith) s in let n : x ≡ y = cc in let w = sym g ∙ ap (stands_for names) n ∙ h in literal_of (cc) l m
+alike_number {names} s (constant {name = x} g l) (value {name = y} h) =
     let same = same_plain (omega arith) s in let n : x ≡ y = cc in let w = sym g ∙ ap (stands_for names) n ∙ h in cc
-alike_number {names} s (value {name = x} g) (constant {name = y} h) =
+alike_number {names} s (constant {name = x} g l) (index {name = y} h) =
+    let same = same_plain (omega arith) s in let n : x ≡ y = cc in let w = sym g ∙ ap (stands_for names) n ∙ h in cc
+alike_number {names} s (value {name = x} g) (constant {name = y} h m) =
     let same = same_plain (omega arith) s in let n : x ≡ y = cc in let w = sym g ∙ ap (stands_for names) n ∙ h in cc
 alike_number {names} s (value {name = x} g) (value {name = y} h) =
     let same = same_plain (omega arith) s in let n : x ≡ y = cc in let w = sym g ∙ ap (stands_for names) n ∙ h in same_value cc
-alike_number {names} s (index {name = x} g) (index {name = y} h) =
-    let same = same_plain (omega arith) s in let n : x ≡ y = cc in let w = sym g ∙ ap (stands_for names) n ∙ h in same_value cc
-alike_number {names} s (index {name = x} g) (constant {name = y} h) =
+alike_number {names} s (value {name = x} g) (index {name = y} h) =
     let same = same_plain (omega arith) s in let n : x ≡ y = cc in let w = sym g ∙ ap (stands_for names) n ∙ h in cc
-alike_number {names} s (constant {name = x} g) (index {name = y} h) =
+alike_number {names} s (index {name = x} g) (constant {name = y} h m) =
     let same = same_plain (omega arith) s in let n : x ≡ y = cc in let w = sym g ∙ ap (stands_for names) n ∙ h in cc
 alike_number {names} s (index {name = x} g) (value {name = y} h) =
     let same = same_plain (omega arith) s in let n : x ≡ y = cc in let w = sym g ∙ ap (stands_for names) n ∙ h in cc
-alike_number {names} s (value {name = x} g) (index {name = y} h) =
-    let same = same_plain (omega arith) s in let n : x ≡ y = cc in let w = sym g ∙ ap (stands_for names) n ∙ h in cc
+alike_number {names} s (index {name = x} g) (index {name = y} h) =
+    let same = same_plain (omega arith) s in let n : x ≡ y = cc in let w = sym g ∙ ap (stands_for names) n ∙ h in same_value cc
 alike_number {names} s (field {node = x} {field = y} g i) (field {node = z} {field = v} h j) =
     let same = same_plain (omega arith) s in
     let n : x ≡ z = cc in let m : y ≡ v = cc in
@@ -99,10 +107,7 @@ alike_constant s (combined {operator = o} {u = u} {v = v} i k e) (combined {oper
 alike_constant s x y = absurd (omega (arith, same_rank s))
 
 pub alike_count : {names : Names} {form other : Form} {w v : ℕ} → AlikeForm form other → IsCount names form w → IsCount names other v → w ≡ v
-alike_count s (count a b) (count c d) = let same = same_plain (omega arith) s in cc
-alike_count {names} s (constant_count {name = x} a b g) (constant_count {name = y} c d h) =
-    let same = same_plain (omega arith) s in let n : x ≡ y = cc in let w = sym g ∙ ap (stands_for names) n ∙ h in cc
-alike_count s x y = absurd (omega (arith, same_rank s))
+alike_count s (count a b i) (count c d j) = let same = alike_constant s i j in cc
 
 -- ---- places and actions
 

@@ -1,11 +1,12 @@
 -- Texts with alike declarations have the same program, except for the memory that its parts occupy.
 use Rattle.std.proofs.Common.{◌≡◌, ◌∙◌, ℕ, zero, suc, ℤ, List, [], ◌∷◌, ◌++◌, length, get_or, refl, sym, ap, ap₂, subst, arith}
 use Rattle.tl_syntax.specs.declared.parsed.Name.{Name}
+use Rattle.tl_syntax.specs.declared.parsed.Expression.{Expression}
 use Rattle.tl_syntax.specs.declared.parsed.Procedure.{Procedure as TextProcedure}
 use Rattle.tl_syntax.specs.declared.parsed.Part.{Part}
 use Rattle.tl_syntax.specs.declared.parsed.Declaration.{Declaration}
 use Rattle.tl_syntax.specs.declared.parsed.Declaration.TheVariants as D
-use Rattle.tl_syntax.specs.Alike.{AlikeProcedure, AlikeDeclaration}
+use Rattle.tl_syntax.specs.Alike.{AlikeForm, AlikeProcedure, AlikeDeclaration}
 use Rattle.tl_syntax.proofs.AlikeParts.{PairedDeclarations, paired_nothing, paired_declaration, push_declaration, paired_declarations, same_declaration_rank, field_of, constant_of, procedure_of, part_of, part_name}
 use Rattle.tl_syntax.specs.Tokens.{AreTokens}
 use Rattle.tl_syntax.specs.Declarations.{IsFile}
@@ -41,9 +42,9 @@ alike_body : {before later : List Declaration} {names : Names} {text other : Tex
 alike_body parts s g h =
     tried_of (tried_of (alike_block parts s.body g.body_is h.body_is) (alike_block parts s.otherwise g.handler_is h.handler_is) g.handled_is h.handled_is) same_skip g.whole_is h.whole_is
 
-same_later : {k : ℕ} {names a b : Names} {name : Name} {w : ℤ} → IsWithField k names name w a → IsWithField k names name w b → a ≡ b
-same_later {k} {names} {name = name} g h =
-    let w = sym g.number_is ∙ h.number_is in
+same_later : {k : ℕ} {names a b : Names} {name : Name} {x y : Expression} → AlikeForm x.form y.form → IsWithField k names name x a → IsWithField k names name y b → a ≡ b
+same_later {k} {names} {name = name} s g h =
+    let w = alike_constant s g.number_is h.number_is in
     let same : g.field ≡ h.field = cc in
     g.later_is ∙ ap (λ f. with_field names name f k) same ∙ sym h.later_is
 
@@ -66,8 +67,7 @@ alike_procedures {spellings} {before} {later} {names} {qs = qs} parts (paired_de
     let same = field_of x in
     let first : IsWithField (length later) names n w now = subst (λ z. IsWithField (length later) names z w now) (sym same.0) k in
     let here : IsWithField (length before) names n w now = subst (λ z. IsWithField z names n w now) (sym (paired_length parts)) first in
-    let other : IsWithField (length before) names n v now = subst (λ z. IsWithField (length before) names n z now) (sym same.1) here in
-    alike_procedures (push_declaration x parts) s g (subst (λ n. AreDeclared spellings (later ++ d ∷ []) n rest qs) (sym (same_later f other)) h)
+    alike_procedures (push_declaration x parts) s g (subst (λ n. AreDeclared spellings (later ++ d ∷ []) n rest qs) (sym (same_later same.1 f here)) h)
 alike_procedures {spellings} {before} {later} {names} {qs = qs} parts (paired_declaration {e = d} {es = rest} x s) (next_constant {name = n} {number = v} f i g) (next_constant {name = m} {number = w} k j h) =
     let same = constant_of x in
     let first : AreDeclared spellings (later ++ d ∷ []) (with_constant names n w (length later)) rest qs =

@@ -47,7 +47,7 @@ in_block f body e = grind (arith, the_lemmas)
 
 -- what reading the body of a part takes at most, without the parts that it uses
 abbrev cost : Declaration → ℕ
-cost (D.Field name number offset) = 0
+cost (D.Field name number) = 0
 cost (D.Constant name value) = 0
 cost (D.Procedure p) = 0
 cost (D.Part p) = 4 * most statement.the_size p.body.items + length p.parameters.items + 2

@@ -26,11 +26,11 @@ use Rattle.tl_lowering.specs.declared.program.Procedure.{Procedure}
 use Rattle.tl_lowering.specs.declared.program.Statement.{Statement}
 use Rattle.tl_lowering.specs.declared.program.Statement.TheVariants as S
 use Rattle.tl_lowering.specs.Fit.{loops, AllTurn, AllSlots, HasBoth, IsWord, HasConditionRoom, HasRoom}
-use Rattle.tl_lowering.specs.Names.{Names, names_in, HasNode, in_loop, with_node, with_index, with_value, with_alias, with_place}
-use Rattle.tl_lowering.specs.Naming.{IsCount, count, constant_count, IsPlace, node, child, pair, calculated, opposite, together, IsComparison, IsCondition, comparison, negation, conjunction, disjunction, then, IsHalved, none, one, more, AreEmits, no_emits, next_emit, AreWritten, all_computed, next_computed, IsWritten, one_write, several_writes, IsAction, assigns, writes, emits, requires, descends, takes, frees, breaks, returns, fails}
+use Rattle.tl_lowering.specs.Names.{Names, names_in, HasNode, in_loop, with_node, with_index, with_value, with_alias, with_variable, with_place}
+use Rattle.tl_lowering.specs.Naming.{IsCount, count, IsPlace, node, child, pair, calculated, opposite, together, IsComparison, IsCondition, comparison, negation, conjunction, disjunction, then, IsHalved, none, one, more, AreEmits, no_emits, next_emit, AreWritten, all_computed, next_computed, IsWritten, one_write, several_writes, IsAction, assigns, writes, emits, requires, descends, takes, frees, breaks, returns, fails}
 use Rattle.tl_lowering.specs.Outcomes.{fails as failures}
 use Rattle.tl_lowering.specs.Passing.{nothing_before, EntersOnce}
-use Rattle.tl_lowering.specs.Reading.{IsAtOffset, at, IsTried, tried, IsVisiting, visiting, IsBlock, block, AreStatements, no_more, next, let_rest, let_else, lock_rest, lock_else, IsStatement, IsActed, plain, used, IsGiven, all_given, node_given, value_given, act, act_else, try, if, if_lock, repeat, repeat_up_to, for_each, block_alone, IsBody}
+use Rattle.tl_lowering.specs.Reading.{IsAtOffset, at, IsTried, tried, IsVisiting, visiting, IsBlock, block, AreStatements, no_more, next, let_rest, let_else, lock_rest, lock_else, IsStatement, IsActed, plain, used, IsGiven, all_given, node_given, variable_given, value_given, act, act_else, try, if, if_lock, repeat, repeat_up_to, for_each, block_alone, IsBody}
 use Rattle.tl_lowering.specs.Scopes.{View, is_in_loop}
 use Rattle.tl_lowering.specs.Sets.{none_held}
 use Rattle.tl_lowering.specs.Sound.{IsWellFormed, IsInOrder}
@@ -64,8 +64,7 @@ halved {names} le (more {xs = xs} long s t then) h =
 
 -- a loop's count isn't 0
 may_turn : {names : Names} {form : Form} {w : ℕ} → IsCount names form w → 0 < w
-may_turn (count lt le) = lt
-may_turn (constant_count lt le e) = lt
+may_turn (count lt le e) = lt
 
 -- the locked nodes have registers, and what follows uses those above them
 locking : {p q : _} {names : Names} {text : TextPlace} {place : Place} {a o : Statement} → IsPlace names text place → Fits (with_place names text) a → Fits names o
@@ -196,6 +195,11 @@ mutual
       let later_is : later ≡ with_alias names name g.register = g.later_is in
       let x = in_given (subst (λ n. n.loops ≤ MAX_DEPTH) (sym later_is) le) rest in
       let y : Fits (with_alias names name g.register) a = subst (λ n. Fits n a) later_is x in
+      record { turns = y.turns; slots = y.slots; depth = y.depth; room = y.room }
+  in_given {names = names} le (variable_given {later = later} {name = name} {a = a} argument g rest) =
+      let later_is : later ≡ with_variable names name g.register = g.later_is in
+      let x = in_given (subst (λ n. n.loops ≤ MAX_DEPTH) (sym later_is) le) rest in
+      let y : Fits (with_variable names name g.register) a = subst (λ n. Fits n a) later_is x in
       record { turns = y.turns; slots = y.slots; depth = y.depth; room = y.room }
   in_given {names = names} le (value_given {later = later} {name = name} {a = a} argument g rest) =
       let later_is : later ≡ with_value names name = g.later_is in

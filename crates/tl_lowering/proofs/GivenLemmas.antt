@@ -20,9 +20,9 @@ use Rattle.tl_lowering.specs.declared.scope.Meaning.{Meaning}
 use Rattle.tl_lowering.specs.declared.scope.Meaning.TheVariants as M
 use Rattle.tl_lowering.specs.Drafts.{Binds, binds_value}
 use Rattle.tl_lowering.specs.Entering.{before_of}
-use Rattle.tl_lowering.specs.Giving.{IsNodeGiven, IsValueGiven}
+use Rattle.tl_lowering.specs.Giving.{IsNodeGiven, IsVariableGiven, IsValueGiven}
 use Rattle.tl_lowering.specs.Names.{Names}
-use Rattle.tl_lowering.specs.Reading.{IsBlock, IsGiven, all_given, node_given, value_given}
+use Rattle.tl_lowering.specs.Reading.{IsBlock, IsGiven, all_given, node_given, variable_given, value_given}
 use Rattle.tl_lowering.specs.Outcomes.{locked, nodes_behind, handled_by, after, fails}
 use Rattle.tl_lowering.specs.Paths.{bits, nodes_of}
 use Rattle.tl_lowering.specs.Repeating.{IsTurn}
@@ -132,6 +132,12 @@ pub given_node : {before : List Declaration} {outer names later : Names} {ps res
     → IsGiven before outer names ps args body a
 given_node {before} {outer} {names} {rest = rest} {args = args} {name = name} {argument = argument} {body = body} {a = a} e f g h k =
     subst (λ z. IsGiven before outer names z args body a) (sym (e ∙ ap (λ z. z ∷ rest) f)) (subst (λ z. IsGiven before outer names (G.Node name ∷ rest) z body a) (sym g) (node_given argument h k))
+
+pub given_variable : {before : List Declaration} {outer names later : Names} {ps rest : List Parameter} {args more : List TextExpression} {p : Parameter} {name : Name} {argument : TextExpression} {body : List TextStatement}
+    {a : Statement} → ps ≡ p ∷ rest → p ≡ G.Variable name → args ≡ argument ∷ more → IsVariableGiven outer names name argument later → IsGiven before outer later rest more body a
+    → IsGiven before outer names ps args body a
+given_variable {before} {outer} {names} {rest = rest} {args = args} {name = name} {argument = argument} {body = body} {a = a} e f g h k =
+    subst (λ z. IsGiven before outer names z args body a) (sym (e ∙ ap (λ z. z ∷ rest) f)) (subst (λ z. IsGiven before outer names (G.Variable name ∷ rest) z body a) (sym g) (variable_given argument h k))
 
 bound_given : {before : List Declaration} {outer names later : Names} {rest : List Parameter} {more : List TextExpression} {name : Name} {argument : TextExpression} {body : List TextStatement}
     {e : Expression} {a whole : Statement} → IsValueGiven outer names name argument e later → IsGiven before outer later rest more body a → Binds (B.Value names.values e) a whole

@@ -12,6 +12,7 @@ pub mod FitLemmas
 pub mod GivenLemmas
 pub mod JoinLemmas
 pub mod LeaveLemmas
+pub mod LiteralLemmas
 pub mod LoopLemmas
 pub mod LoweringLemmas
 pub mod NamingLemmas

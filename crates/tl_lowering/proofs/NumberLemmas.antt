@@ -14,7 +14,7 @@ use Rattle.tl_lowering.specs.Paths.{Paths, nodes_of, paths_of, on}
 use Rattle.tl_lowering.specs.Scopes.{View}
 use Rattle.tl_lowering.proofs.NamingLemmas.{AreEmitted}
 use Rattle.tl_lowering.specs.declared.program.Place.TheVariants as P
-use Rattle.tl_syntax.specs.declared.parsed.Form.TheVariants as F
+use Rattle.tl_syntax.specs.declared.parsed.Form.{Form}
 use Rattle.tl_syntax.specs.declared.parsed.Expression.{Expression as TextExpression}
 use Rattle.tl_syntax.specs.declared.operator.Operator.{Operator}
 use Rattle.tl_lowering.specs.declared.program.Expression.{Expression}
@@ -27,7 +27,7 @@ use Rattle.tl_lowering.specs.Names.{Names, stands_for, IsNew, HasNode, with_node
 use Rattle.tl_syntax.specs.declared.parsed.Action.TheVariants as A
 use Rattle.tl_lowering.specs.declared.program.Statement.{Statement}
 use Rattle.tl_lowering.specs.declared.program.Statement.TheVariants as S
-use Rattle.tl_lowering.specs.Naming.{IsAction, AreEmits, no_emits, next_emit, Emits, emits, requires, Locks, IsPlace, node, child, pair, IsCalculated, calculated, IsNumber, IsConstant, IsCount, count, constant_count, IsNot, opposite, IsBoth, together, IsCompared, IsCondition}
+use Rattle.tl_lowering.specs.Naming.{IsAction, AreEmits, no_emits, next_emit, Emits, emits, requires, Locks, IsPlace, node, child, pair, IsCalculated, calculated, IsNumber, IsConstant, IsCount, count, IsNot, opposite, IsBoth, together, IsCompared, IsCondition}
 use Rattle.tl_syntax.specs.declared.parsed.Comparison.{Comparison}
 
 pub calculated_of : {p q : _} {o : Operator} {l r a b : Expression} → l ≡ a → r ≡ b → IsCalculated o a b (E.Calculated' o p l q r)
@@ -63,15 +63,8 @@ at_most : (z : ℤ) (t : ℕ) → FitsUnsignedBits 16 z → t ≡ nat_abs z → 
 at_most (pos n) t f e = omega arith
 at_most (negsuc n) t f e = absurd f
 
-pub counts : {names : Names} {w : ℤ} (z : ℤ) (t : ℕ) → 0 < t → FitsUnsignedBits 16 z → t ≡ nat_abs z → z ≡ w → IsCount names (F.Number w) t
-counts {names} {w} z t lt f e g = subst (λ x. IsCount names (F.Number x) t) (sym (counted z w t f e g)) (count lt (at_most z t f e))
-
-pub counts_constant : {names : Names} {name : Name} {w : ℤ} {i : ℕ} (z : ℤ) (t : ℕ) → 0 < t → FitsUnsignedBits 16 z → t ≡ nat_abs z → z ≡ w → stands_for names name ≡ M.Constant w i
-    → IsCount names (F.Named name) t
-counts_constant {w = w} {i = i} z t lt f e g h = constant_count lt (at_most z t f e) (h ∙ ap (λ v. M.Constant v i) (counted z w t f e g))
-
-pub counts_none : (z : ℤ) (t : ℕ) → 0 < t → t ≡ nat_abs z → z ≡ pos 0 → ⊥
-counts_none z t lt e g = let zero : t ≡ 0 = e ∙ ap nat_abs g in omega arith
+pub counts : {names : Names} {form : Form} {w : ℤ} (z : ℤ) (t : ℕ) → 0 < t → FitsUnsignedBits 16 z → t ≡ nat_abs z → z ≡ w → IsConstant names form w → IsCount names form t
+counts {names} {form} {w} z t lt f e g h = count lt (at_most z t f e) (subst (IsConstant names form) (counted z w t f e g) h)
 
 -- ---- a condition that must be true
 

@@ -97,6 +97,10 @@ constant_in_use t m ms s w k h = set_in_use t t m m ms s (M.Constant w k) (omega
 pub value_in_use : (t m : ℕ) (ms : List Meaning) (s x : ℕ) → x ≡ t → AreInUse t m ms → AreInUse (t + 1) m (slice_set ms s (M.Value x))
 value_in_use t m ms s x e h = set_in_use t (t + 1) m m ms s (M.Value x) (omega arith) (omega arith) (omega arith) (λ n i e f. cc) h
 
+-- a value of another name gets a name
+pub variable_in_use : (t m : ℕ) (ms : List Meaning) (s x : ℕ) → x < t → AreInUse t m ms → AreInUse t m (slice_set ms s (M.Value x))
+variable_in_use t m ms s x lt h = set_in_use t t m m ms s (M.Value x) (omega arith) (omega arith) lt (λ n i e f. cc) h
+
 pub index_in_use : (t m : ℕ) (ms : List Meaning) (s x : ℕ) → x ≡ t → AreInUse t m ms → AreInUse (t + 1) m (slice_set ms s (M.Index x))
 index_in_use t m ms s x e h = set_in_use t (t + 1) m m ms s (M.Index x) (omega arith) (omega arith) (omega arith) (λ n i e f. cc) h
 

@@ -70,11 +70,11 @@ module _ {spellings : List (List ℕ)} {names old : Names} (new : Names) (ps : L
       subst (λ z. AreDeclared spellings (take i xs ++ z ∷ []) now rest more) e
       (subst (λ n. AreDeclared spellings (take i xs ++ x ∷ []) n rest more) g (subst (λ l. AreDeclared spellings l new rest more) (another xs i x lt f) h))
 
-  pub field_more : {name : Name} {number : ℤ} {offset : ℕ} → x ≡ D.Field name number offset → IsWithField i old name number new → AreSoFar spellings names (take (i + 1) xs) ps new
-  field_more {name} {number} {offset} e g rest more h =
+  pub field_more : {name : Name} {number : TextExpression} → x ≡ D.Field name number → IsWithField i old name number new → AreSoFar spellings names (take (i + 1) xs) ps new
+  field_more {name} {number} e g rest more h =
       let here : IsWithField (length (take i xs)) old name number new = subst (λ k. IsWithField k old name number new) count g in
       one_more xs i x rest (ps ++ more) lt f
-      (part (x ∷ rest) more (subst (λ d. AreDeclared spellings (take i xs) old (d ∷ rest) more) (sym e) (next_field here (behind (D.Field name number offset) e refl h))))
+      (part (x ∷ rest) more (subst (λ d. AreDeclared spellings (take i xs) old (d ∷ rest) more) (sym e) (next_field here (behind (D.Field name number) e refl h))))
 
   pub constant_more : {name : Name} {value : TextExpression} {number : ℤ} → x ≡ D.Constant name value → IsNew old name → IsConstant old value.form number → new ≡ with_constant old name number i
       → AreSoFar spellings names (take (i + 1) xs) ps new

@@ -80,7 +80,7 @@ at_token (token b t rest) (suc i) s e = at_token rest i s e
 
 -- the name of a procedure is a word
 abbrev pub IsNamed : List (List ℕ) → Declaration → Type 0
-IsNamed names (D.Field n w offset) = Unit {0}
+IsNamed names (D.Field n w) = Unit {0}
 IsNamed names (D.Constant n e) = Unit {0}
 IsNamed names (D.Procedure text) = IsWord (get_or names text.name.symbol.0 [])
 IsNamed names (D.Part p) = Unit {0}
@@ -94,7 +94,7 @@ module _ {names : List (List ℕ)} {text : List ℕ} {tokens : List Token} (read
   of_procedure (procedure_else r p n l a b e o) = of_name n
 
   of_declaration : {i j : ℕ} {d : Declaration} → IsDeclaration tokens i j d → IsNamed names d
-  of_declaration (field f n a m s o) = tt
+  of_declaration (field f n a m s) = tt
   of_declaration (constant c n a m s) = tt
   of_declaration (procedures p) = of_procedure p
   of_declaration (parts p) = tt
@@ -106,7 +106,7 @@ module _ {names : List (List ℕ)} {text : List ℕ} {tokens : List Token} (read
 declared : {spellings : List (List ℕ)} {before : List Declaration} {names : Names} {ds : List Declaration} {ps : List Procedure} → AreDeclared spellings before names ds ps → All (IsNamed spellings) ds
     → All (λ (p : Procedure). IsWord p.name.items) ps
 declared none_declared h = All-nil _
-declared {spellings} (next_field {name = n} {number = w} {offset = offset} {rest = rest} f more) h = declared more (All-tail (IsNamed spellings) (D.Field n w offset) rest h)
+declared {spellings} (next_field {name = n} {number = w} {rest = rest} f more) h = declared more (All-tail (IsNamed spellings) (D.Field n w) rest h)
 declared {spellings} (next_constant {name = n} {value = e} {rest = rest} fresh is more) h = declared more (All-tail (IsNamed spellings) (D.Constant n e) rest h)
 declared {spellings} (next_part {part = p} {rest = rest} fresh more) h = declared more (All-tail (IsNamed spellings) (D.Part p) rest h)
 declared {spellings} (next_procedure {text = text} {p = p} {rest = rest} {ps = ps} fresh is more) h =

@@ -95,6 +95,10 @@ IsUnnamed names n = (i : ℕ) → get_or names.meanings i M.Nothing ≢ M.Node n
 abbrev pub with_alias : Names → Name → ℕ → Names
 with_alias names name n = with_meaning names name (M.Node n)
 
+-- the name denotes the value in this register
+abbrev pub with_variable : Names → Name → ℕ → Names
+with_variable names name x = with_meaning names name (M.Value x)
+
 -- the name, if it is given, denotes the index of a loop's child: a value that can't be assigned, in the next register
 abbrev pub meanings_with : Names → Option Name → List Meaning
 meanings_with names None = names.meanings

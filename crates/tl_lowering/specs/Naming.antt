@@ -1,5 +1,5 @@
 -- The core forms of a text's numbers, conditions, places and actions, in which names are replaced by registers and fields.
-use Rattle.std.specs.Prelude.{◌≡◌, ◌<◌, ◌≤◌, ℕ, ◌+◌, ◌/◌, List, [], ◌∷◌, ◌++◌, length, take, drop, Bool, true, false, ◌||◌, ◌&&◌, nat_eq, Option, None, Some, ℤ, pos, negsuc, ◌+ℤ◌, ◌-ℤ◌, ◌*ℤ◌, int_div, ◌^◌, nat_lt, if◌then◌else◌}
+use Rattle.std.specs.Prelude.{◌≡◌, ◌<◌, ◌≤◌, ℕ, ◌+◌, ◌/◌, List, [], ◌∷◌, ◌++◌, length, take, drop, Bool, true, false, ◌||◌, ◌&&◌, nat_eq, Option, None, Some, ℤ, pos, negsuc, ◌+ℤ◌, ◌-ℤ◌, ◌*ℤ◌, int_div, int_rem, ◌^◌, nat_lt, if◌then◌else◌}
 use Rattle.std.specs.Ordering.{int_eq}
 use Rattle.std.specs.declared.vec.Vec.{Vec}
 use Rattle.std.specs.declared.boxed.Box.{Box}
@@ -42,9 +42,20 @@ use Rattle.tl_lowering.specs.Names.{Names, stands_for, IsNew, HasNode, field_nam
 pub data IsCalculated (operator : Operator) (left right : Expression) : Expression → Type 0 where
   calculated : {p q : _} → IsCalculated operator left right (E.Calculated' operator p left q right)
 
+-- whether the number has 32 bits
+abbrev pub is_narrow : ℤ → Bool
+is_narrow (pos n) = nat_lt n (2 ^ 31)
+is_narrow (negsuc n) = nat_lt n (2 ^ 31)
+
+-- a number that is written: one of more than 32 bits is computed from its quotient by 2 ^ 16 and the rest
+pub data IsLiteral : ℤ → Expression → Type 0 where
+  short_number : {w : ℤ} → is_narrow w ≡ true → IsLiteral w (E.Constant w)
+  long_number : {w : ℤ} {a b e : Expression} → is_narrow w ≡ false → IsLiteral (int_div w (pos 65536)) a → IsCalculated O.Multiply a (E.Constant (pos 65536)) b →
+      IsCalculated O.Add b (E.Constant (int_rem w (pos 65536))) e → IsLiteral w e
+
 pub data IsNumber (names : Names) : Form → Expression → Type 0 where
-  number : {w : ℤ} → IsNumber names (F.Number w) (E.Constant w)
-  constant : {name : Name} {w : ℤ} {i : ℕ} → stands_for names name ≡ M.Constant w i → IsNumber names (F.Named name) (E.Constant w)
+  number : {w : ℤ} {e : Expression} → IsLiteral w e → IsNumber names (F.Number w) e
+  constant : {name : Name} {w : ℤ} {i : ℕ} {e : Expression} → stands_for names name ≡ M.Constant w i → IsLiteral w e → IsNumber names (F.Named name) e
   value : {name : Name} {x : ℕ} → stands_for names name ≡ M.Value x → IsNumber names (F.Named name) (E.Value x)
   index : {name : Name} {x : ℕ} → stands_for names name ≡ M.Index x → IsNumber names (F.Named name) (E.Value x)
   field : {node field : Name} {n f : ℕ} → stands_for names node ≡ M.Node n → field_named names field ≡ Some f →
@@ -56,19 +67,19 @@ pub data IsNumber (names : Names) : Form → Expression → Type 0 where
   operation : {operator : Operator} {a b : Box TextExpression Global} {c d e : Expression} → IsNumber names a.value.form c →
       IsNumber names b.value.form d → IsCalculated operator c d e → IsNumber names (F.Calculated operator a b) e
 
--- the number, if it has 32 bits
-abbrev pub narrow : ℤ → Option ℤ
-narrow (pos n) = if nat_lt n (2 ^ 31) then Some (pos n) else None
-narrow (negsuc n) = if nat_lt n (2 ^ 31) then Some (negsuc n) else None
+-- the number, if it has 64 bits
+abbrev pub fitting : ℤ → Option ℤ
+fitting (pos n) = if nat_lt n (2 ^ 63) then Some (pos n) else None
+fitting (negsuc n) = if nat_lt n (2 ^ 63) then Some (negsuc n) else None
 
--- the result of an operation on two constants; None if it doesn't have 32 bits, or if the divisor is 0
+-- the result of an operation on two constants; None if it doesn't have 64 bits, or if the divisor is 0
 abbrev pub folded : Operator → ℤ → ℤ → Option ℤ
-folded O.Add x y = narrow (x +ℤ y)
-folded O.Subtract x y = narrow (x -ℤ y)
-folded O.Multiply x y = narrow (x *ℤ y)
-folded O.Divide x y = if int_eq y (pos 0) then None else narrow (int_div x y)
+folded O.Add x y = fitting (x +ℤ y)
+folded O.Subtract x y = fitting (x -ℤ y)
+folded O.Multiply x y = fitting (x *ℤ y)
+folded O.Divide x y = if int_eq y (pos 0) then None else fitting (int_div x y)
 
--- the number of a constant: it and each number on the way have 32 bits
+-- the number of a constant: it and each number on the way have 64 bits
 pub data IsConstant (names : Names) : Form → ℤ → Type 0 where
   written : {w : ℤ} → IsConstant names (F.Number w) w
   known : {name : Name} {w : ℤ} {i : ℕ} → stands_for names name ≡ M.Constant w i → IsConstant names (F.Named name) w
@@ -78,8 +89,7 @@ pub data IsConstant (names : Names) : Form → ℤ → Type 0 where
 
 -- the largest number of turns of a loop, from 1 to 65,535
 pub data IsCount (names : Names) : Form → ℕ → Type 0 where
-  count : {w : ℕ} → 0 < w → w ≤ 65535 → IsCount names (F.Number (pos w)) w
-  constant_count : {name : Name} {w i : ℕ} → 0 < w → w ≤ 65535 → stands_for names name ≡ M.Constant (pos w) i → IsCount names (F.Named name) w
+  count : {form : Form} {w : ℕ} → 0 < w → w ≤ 65535 → IsConstant names form (pos w) → IsCount names form w
 
 -- ---- conditions
 

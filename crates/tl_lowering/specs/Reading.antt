@@ -34,7 +34,7 @@ use Rattle.tl_lowering.specs.declared.program.Procedure.{Procedure}
 use Rattle.tl_lowering.specs.declared.scope.Meaning.TheVariants as M
 use Rattle.tl_lowering.specs.Atomic.{IsAtomic}
 use Rattle.tl_lowering.specs.Fit.{loops}
-use Rattle.tl_lowering.specs.Giving.{IsNodeGiven, IsValueGiven}
+use Rattle.tl_lowering.specs.Giving.{IsNodeGiven, IsVariableGiven, IsValueGiven}
 use Rattle.tl_lowering.specs.Outcomes.{after}
 use Rattle.tl_lowering.specs.Sets.{Nodes}
 use Rattle.tl_lowering.specs.Registers.{behind, HasTemporaries, HasRegisters}
@@ -126,13 +126,16 @@ mutual
         IsGiven (take k before) names (inside k names) p.parameters.items arguments.items p.body.items a → names.loops + loops a ≤ MAX_DEPTH →
         IsActed before names (A.Use name arguments) a
 
-  -- the body of a part, with what is given for each of its names: a node, or a number in a `let`
+  -- the body of a part, with what is given for each of its names: a node, a value, or a number in a `let`
   pub data IsGiven : List Declaration → Names → Names → List Parameter → List TextExpression → List TextStatement → Statement → Type 0 where
     all_given : {before : List Declaration} {outer names : Names} {body : List TextStatement} {a : Statement} → IsBlock before names body a →
         IsGiven before outer names [] [] body a
     node_given : {before : List Declaration} {outer names later : Names} {name : Name} {parameters : List Parameter} {arguments : List TextExpression}
         {body : List TextStatement} {a : Statement} (argument : TextExpression) → IsNodeGiven outer names name argument later →
         IsGiven before outer later parameters arguments body a → IsGiven before outer names (G.Node name ∷ parameters) (argument ∷ arguments) body a
+    variable_given : {before : List Declaration} {outer names later : Names} {name : Name} {parameters : List Parameter} {arguments : List TextExpression}
+        {body : List TextStatement} {a : Statement} (argument : TextExpression) → IsVariableGiven outer names name argument later →
+        IsGiven before outer later parameters arguments body a → IsGiven before outer names (G.Variable name ∷ parameters) (argument ∷ arguments) body a
     value_given : {before : List Declaration} {outer names later : Names} {name : Name} {parameters : List Parameter} {arguments : List TextExpression}
         {body : List TextStatement} {e : Expression} {p : _} {a : Statement} (argument : TextExpression) → IsValueGiven outer names name argument e later →
         IsGiven before outer later parameters arguments body a →
@@ -158,20 +161,20 @@ pub record IsProcedure (spellings : List (List ℕ)) (before : List Declaration)
   pub arguments : AreNew names text.arguments.items
   pub body : IsBody before (with_values names text.arguments.items) text procedure.body
 
--- the name, which isn't yet that of a field, becomes the name of the field with this number, from 0 to 7, by the declaration with this index
-pub record IsWithField (index : ℕ) (names : Names) (name : Name) (number : ℤ) (later : Names) : Type 0 where
+-- the name, which isn't yet that of a field, becomes the name of the field with this constant's number, from 0 to 7, by the declaration with this index
+pub record IsWithField (index : ℕ) (names : Names) (name : Name) (number : TextExpression) (later : Names) : Type 0 where
   pub fresh : field_named names name ≡ None
   pub field : Field
   pub fits : field ≤ 7
-  pub number_is : number ≡ pos field
+  pub number_is : IsConstant names number.form (pos field)
   pub later_is : later ≡ with_field names name field index
 
 -- the procedures among these declarations, which stand behind others
 pub data AreDeclared (spellings : List (List ℕ)) : List Declaration → Names → List Declaration → List Procedure → Type 0 where
   none_declared : {before : List Declaration} {names : Names} → AreDeclared spellings before names [] []
-  next_field : {before : List Declaration} {names later : Names} {name : Name} {number : ℤ} {offset : ℕ} {rest : List Declaration} {ps : List Procedure} →
-      IsWithField (length before) names name number later → AreDeclared spellings (before ++ D.Field name number offset ∷ []) later rest ps →
-      AreDeclared spellings before names (D.Field name number offset ∷ rest) ps
+  next_field : {before : List Declaration} {names later : Names} {name : Name} {number : TextExpression} {rest : List Declaration} {ps : List Procedure} →
+      IsWithField (length before) names name number later → AreDeclared spellings (before ++ D.Field name number ∷ []) later rest ps →
+      AreDeclared spellings before names (D.Field name number ∷ rest) ps
   next_constant : {before : List Declaration} {names : Names} {name : Name} {value : TextExpression} {number : ℤ} {rest : List Declaration} {ps : List Procedure} →
       IsNew names name → IsConstant names value.form number →
       AreDeclared spellings (before ++ D.Constant name value ∷ []) (with_constant names name number (length before)) rest ps →

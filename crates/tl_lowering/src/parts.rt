@@ -4,7 +4,7 @@ ghost use Rattle.std.specs.Prelude.{◌≡◌, ℕ, ◌+◌, ◌<◌, ◌≤◌,
 ghost use Rattle.tl_budget.specs.declared.limits.TheConstants.{MAX_DEPTH};
 ghost use Rattle.tl_lowering.specs.Entering.{before_of, IsEntering};
 ghost use Rattle.tl_lowering.specs.Fit.{loops};
-ghost use Rattle.tl_lowering.specs.Giving.{IsNodeGiven, IsValueGiven};
+ghost use Rattle.tl_lowering.specs.Giving.{IsNodeGiven, IsVariableGiven, IsValueGiven};
 ghost use Rattle.tl_lowering.specs.Names.{names_of, index_of};
 ghost use Rattle.tl_lowering.specs.Paths.{nodes_of};
 ghost use Rattle.tl_lowering.specs.Drafts.{IsUsed};
@@ -161,6 +161,33 @@ impl Lowering {
         Ok(named.with(register))
     }
 
+    // A part's name for a value of outside, which the part may change. 277 if something else is given.
+    fn give_variable(
+        &mut self,
+        outer: &Scope,
+        name: Name,
+        argument: &parsed::Expression,
+        held: Held,
+    ) -> Result<(), SyntaxFault>
+        requires at { IsAt (view_of self.old.scope) held }
+        requires outer { IsInUse (view_of outer.now) }
+        requires values { outer.now.values ≤ self.old.scope.values }
+        ensures given { OnOk result (IsVariableGiven (names_of outer.now) (names_of self.old.scope) name argument.now (names_of self.new.scope)) }
+        ensures at { OnOk result (IsAt (view_of self.new.scope) held) }
+        ensures values { OnOk result (self.new.scope.values ≡ self.old.scope.values) }
+        ensures nodes { OnOk result (self.new.scope.nodes ≡ self.old.scope.nodes) }
+        ensures loops { OnOk result (self.new.scope.loops ≡ self.old.scope.loops) }
+        ensures named { OnOk result ((i n : ℕ) → get_or (view_of self.new.scope).meanings i Nothing ≡ Node n → get_or (view_of self.old.scope).meanings i Nothing ≡ Node n) }
+    {
+        let Form::Named(called) = &argument.form else {
+            return Err(SyntaxFault::at(Wrong::NoValue, argument.offset));
+        };
+        let register = outer.value(*called)?;
+        self.scope.check_new(name)?;
+        self.scope.declare_variable(name, register)?;
+        Ok(())
+    }
+
     // A part's name for a number of outside: its register, and the number.
     fn give_value(
         &mut self,
@@ -221,6 +248,10 @@ impl Lowering {
         match *parameter {
             Parameter::Node(name) => {
                 let named = self.give_node(using.outer, name, argument, named, held)?;
+                self.given(using, parameters, arguments, named, held)
+            }
+            Parameter::Variable(name) => {
+                self.give_variable(using.outer, name, argument, held)?;
                 self.given(using, parameters, arguments, named, held)
             }
             Parameter::Value(name) => {

@@ -1,6 +1,6 @@
 // From a text to the core forms of its procedures.
 
-ghost use Rattle.std.specs.Prelude.{◌≡◌, [], ◌≤◌, length, None, IfOk, OnOk};
+ghost use Rattle.std.specs.Prelude.{◌≡◌, [], ◌≤◌, length, None, pos, IfSome, IfOk, OnOk};
 ghost use Rattle.std.specs.List.{All};
 ghost use Rattle.tl_lowering.specs.declared.program.Procedure.{Procedure as CoreProcedure};
 ghost use Rattle.tl_lowering.specs.Fit.{IsWord};
@@ -25,25 +25,32 @@ use tl_instr::{Field, MAX_ARGS};
 use tl_syntax::parsed::{self, Declaration, Name};
 use tl_syntax::{Syntax, SyntaxFault, Wrong, parse};
 
+// The field with that number.
+fn field_numbered(number: i64) -> Option<Field>
+    ensures { IfSome result (λ f. number ≡ pos f) }
+{
+    u8::try_from(number).ok().and_then(Field::new)
+}
+
 impl Lowering {
     fn declare_field(
         &mut self,
         name: Name,
-        number: i32,
+        expression: &parsed::Expression,
         index: usize,
-        offset: usize,
     ) -> Result<(), SyntaxFault>
         requires { IsBare (view_of self.old.scope) }
-        ensures named { OnOk result (IsWithField index (names_of self.old.scope) name number (names_of self.new.scope)) }
+        ensures named { OnOk result (IsWithField index (names_of self.old.scope) name expression.now (names_of self.new.scope)) }
         ensures bare { OnOk result (IsBare (view_of self.new.scope)) }
     {
         self.scope.check_new_field(name)?;
-        match u8::try_from(number).ok().and_then(Field::new) {
+        let number = self.scope.constant(expression)?;
+        match field_numbered(number) {
             Some(field) => {
                 self.scope.declare_field(name, field, index);
                 Ok(())
             }
-            None => Err(SyntaxFault::at(Wrong::FieldNumber, offset)),
+            None => Err(SyntaxFault::at(Wrong::FieldNumber, expression.offset)),
         }
     }
 
@@ -133,11 +140,9 @@ impl Lowering {
         for (index, declaration) in declarations.iter().enumerate() {
             let before = &declarations[..index];
             match declaration {
-                Declaration::Field {
-                    name,
-                    number,
-                    offset,
-                } => self.declare_field(*name, *number, index, *offset)?,
+                Declaration::Field { name, number } => {
+                    self.declare_field(*name, number, index)?;
+                }
                 Declaration::Constant { name, value } => {
                     self.scope.check_new(*name)?;
                     let number = self.scope.constant(value)?;

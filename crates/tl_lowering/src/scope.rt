@@ -3,7 +3,7 @@
 ghost use Rattle.std.specs.Prelude.{◌≡◌, ◌≢◌, ℕ, ◌+◌, ◌<◌, length, slice_set, get_or, take, drop, true, Some, None, IfOk, OnOk, IfSome};
 ghost use Rattle.tl_instr.specs.declared.operand.TheConstants.{VALUE_REGISTERS, NODE_REGISTERS};
 ghost use Rattle.tl_lowering.specs.declared.scope.Meaning.TheVariants.{Nothing, Value, Node};
-ghost use Rattle.tl_lowering.specs.Names.{names_of, without_meaning, stands_for, field_named, index_of, constant_only, field_before, inside, with_alias, with_constant, with_field, with_procedure, with_unnamed, with_index, with_value, with_node};
+ghost use Rattle.tl_lowering.specs.Names.{names_of, without_meaning, stands_for, field_named, index_of, constant_only, field_before, inside, with_alias, with_variable, with_constant, with_field, with_procedure, with_unnamed, with_index, with_value, with_node};
 ghost use Rattle.tl_lowering.specs.Paths.{nodes_of};
 ghost use Rattle.tl_lowering.specs.Sets.{holds};
 ghost use Rattle.tl_lowering.specs.Scopes.{View, view_of, IsInUse, IsBare, Extends, meaning_of, node_in, forget};
@@ -19,7 +19,7 @@ use tl_syntax::{Symbol, SyntaxFault, Wrong};
 pub enum Meaning {
     Nothing,
     /// Its number, and the index of its declaration.
-    Constant(i32, usize),
+    Constant(i64, usize),
     Value(ValueRegister),
     /// The place of a loop's child: a value that can't be assigned.
     Index(ValueRegister),
@@ -140,7 +140,7 @@ impl Scope {
     }
 
     /// The declaration with that index declares a constant.
-    pub fn declare_constant(&mut self, name: Name, number: i32, index: usize)
+    pub fn declare_constant(&mut self, name: Name, number: i64, index: usize)
         ensures in_use { IsInUse (view_of self.old) → IsInUse (view_of self.new) }
         ensures values { self.new.values ≡ self.old.values }
         ensures nodes { self.new.nodes ≡ self.old.nodes }
@@ -310,6 +310,24 @@ impl Scope {
     {
         self.local.push(name.symbol)?;
         self.set(name.symbol, Meaning::Node(register));
+        Ok(())
+    }
+
+    /// From here on the name stands for a value that has another name outside of the part.
+    pub fn declare_variable(
+        &mut self,
+        name: Name,
+        register: ValueRegister,
+    ) -> Result<(), SyntaxFault>
+        requires { register < self.old.values }
+        ensures in_use { OnOk result (IsInUse (view_of self.old) → IsInUse (view_of self.new)) }
+        ensures values { OnOk result (self.new.values ≡ self.old.values) }
+        ensures nodes { OnOk result (self.new.nodes ≡ self.old.nodes) }
+        ensures loops { OnOk result (self.new.loops ≡ self.old.loops) }
+        ensures named { OnOk result (names_of self.new ≡ with_variable (names_of self.old) name register) }
+    {
+        self.local.push(name.symbol)?;
+        self.set(name.symbol, Meaning::Value(register));
         Ok(())
     }
 

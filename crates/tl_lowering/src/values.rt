@@ -1,9 +1,9 @@
 // Numbers and conditions, with registers in place of names.
 
-ghost use Rattle.std.specs.Prelude.{◌≡◌, ◌≤◌, ◌-◌, ◌^◌, ℕ, min, true, Some, IfOk, OnOk};
+ghost use Rattle.std.specs.Prelude.{◌≡◌, ◌≤◌, ◌-◌, ◌^◌, ℕ, pos, int_div, int_rem, min, true, Some, IfOk, OnOk};
 ghost use Rattle.tl_instr.specs.declared.operand.TheConstants.{VALUE_REGISTERS};
 ghost use Rattle.tl_lowering.specs.Names.{names_of};
-ghost use Rattle.tl_lowering.specs.Naming.{IsCalculated, IsNumber, folded as folded_lem, IsConstant, IsCount, IsNot, IsBoth, IsComparison, IsCompared, IsCondition};
+ghost use Rattle.tl_lowering.specs.Naming.{IsCalculated, IsNumber, IsLiteral, folded as folded_lem, IsConstant, IsCount, IsNot, IsBoth, IsComparison, IsCompared, IsCondition};
 ghost use Rattle.tl_lowering.specs.Outcomes.{may_fail as may_fail_lem, condition_may_fail as condition_may_fail_lem};
 ghost use Rattle.tl_lowering.specs.Paths.{nodes_of};
 ghost use Rattle.tl_lowering.specs.Registers.{HasRegisters, behind as behind_lem, registers_of as registers_of_lem, registers_for as registers_for_lem};
@@ -98,8 +98,34 @@ pub fn calculated(
     Ok(Expression::Calculated(operator, left, right))
 }
 
-// The result of an operation on two constants. 271 at the offset if it doesn't have 32 bits, or if the divisor is 0.
-fn folded(operator: Operator, left: i32, right: i32, offset: usize) -> Result<i32, SyntaxFault>
+// The quotient by 65,536, and the rest.
+fn divided(number: i64) -> (i64, i32)
+    ensures quotient { result.0 ≡ int_div number (pos 65536) }
+    ensures rest { result.1 ≡ int_rem number (pos 65536) }
+{
+    (number / 65_536, (number % 65_536) as i32)
+}
+
+// A number that is written in the text. An instruction has one of 32 bits: another one is computed from its quotient by 65,536 and
+// the rest, which can't fail.
+fn literal(alloc: Global, number: i64) -> Result<Expression, SyntaxFault>
+    ensures named { IfOk result (IsLiteral number) }
+    ensures readable { (values : ℕ) (held : Nodes) → IfOk result (λ e. IsReadable values held e) }
+{
+    match i32::try_from(number) {
+        Ok(short) => Ok(Expression::Constant(short)),
+        Err(_) => {
+            let (quotient, rest) = divided(number);
+            let quotient = literal(alloc, quotient)?;
+            let base = Expression::Constant(65_536);
+            let product = calculated(alloc, Operator::Multiply, quotient, base)?;
+            calculated(alloc, Operator::Add, product, Expression::Constant(rest))
+        }
+    }
+}
+
+// The result of an operation on two constants. 271 at the offset if it doesn't have 64 bits, or if the divisor is 0.
+fn folded(operator: Operator, left: i64, right: i64, offset: usize) -> Result<i64, SyntaxFault>
     ensures { IfOk result (λ n. folded_lem operator left right ≡ Some n) }
 {
     let fault = SyntaxFault::at(Wrong::Number, offset);
@@ -149,13 +175,13 @@ fn compared(
 
 impl Scope {
     // The number that a name stands for.
-    fn named(&self, name: Name, offset: usize) -> Result<Expression, SyntaxFault>
+    fn named(&self, alloc: Global, name: Name, offset: usize) -> Result<Expression, SyntaxFault>
         requires { IsInUse (view_of self.now) }
         ensures named { IfOk result (IsNumber (names_of self.now) (Named name)) }
         ensures readable { (held : Nodes) → IfOk result (λ e. IsReadable self.now.values held e) }
     {
         match self.known(name)? {
-            Meaning::Constant(number, _) => Ok(Expression::Constant(number)),
+            Meaning::Constant(number, _) => literal(alloc, number),
             Meaning::Value(register) => Ok(Expression::Value(register)),
             Meaning::Index(register) => Ok(Expression::Value(register)),
             _ => Err(SyntaxFault::at(Wrong::NoNumber, offset)),
@@ -174,8 +200,8 @@ impl Scope {
         ensures readable { IfOk result (λ e. IsReadable self.now.values (nodes_of held) e) }
     {
         match &expression.form {
-            Form::Number(number) => Ok(Expression::Constant(*number)),
-            Form::Named(name) => self.named(*name, expression.offset),
+            Form::Number(number) => literal(alloc, *number),
+            Form::Named(name) => self.named(alloc, *name, expression.offset),
             Form::Field { node, field } => {
                 let node = self.node(*node, held)?;
                 Ok(Expression::Field(node, self.field(*field)?))
@@ -278,7 +304,7 @@ impl Scope {
     }
 
     // The number of the constant that a name stands for.
-    fn known_constant(&self, name: Name, offset: usize) -> Result<i32, SyntaxFault>
+    fn known_constant(&self, name: Name, offset: usize) -> Result<i64, SyntaxFault>
         ensures { IfOk result (IsConstant (names_of self.now) (Named name)) }
     {
         match self.known(name)? {
@@ -288,8 +314,8 @@ impl Scope {
     }
 
     /// The number of a constant. 275 or 277 at the first name or part that is wrong, 271 at the first token of an operation whose result
-    /// doesn't have 32 bits, or that divides by 0.
-    pub fn constant(&self, expression: &parsed::Expression) -> Result<i32, SyntaxFault>
+    /// doesn't have 64 bits, or that divides by 0.
+    pub fn constant(&self, expression: &parsed::Expression) -> Result<i64, SyntaxFault>
         ensures { IfOk result (IsConstant (names_of self.now) expression.now.form) }
     {
         match &expression.form {
@@ -308,18 +334,26 @@ impl Scope {
         }
     }
 
-    /// How often a loop may turn. 275 if a name is unknown, 280 at the first token if it isn't a constant from 1 to 65,535.
+    // The number of a constant. 280 at the first token if it isn't one, and otherwise as `constant` says.
+    fn count(&self, expression: &parsed::Expression) -> Result<i64, SyntaxFault>
+        ensures { IfOk result (IsConstant (names_of self.now) expression.now.form) }
+    {
+        match self.constant(expression) {
+            Err(
+                SyntaxFault::At {
+                    wrong: Wrong::NoNumber,
+                    ..
+                },
+            ) => Err(SyntaxFault::at(Wrong::Turns, expression.offset)),
+            other => other,
+        }
+    }
+
+    /// How often a loop may turn. 275 or 271 as `constant` says, 280 at the first token if it isn't a constant from 1 to 65,535.
     pub fn turns(&self, expression: &parsed::Expression) -> Result<u16, SyntaxFault>
         ensures { IfOk result (IsCount (names_of self.now) expression.now.form) }
     {
-        let number = match expression.form {
-            Form::Number(number) => number,
-            Form::Named(name) => match self.known(name)? {
-                Meaning::Constant(number, _) => number,
-                _ => 0,
-            },
-            _ => 0,
-        };
+        let number = self.count(expression)?;
         match u16::try_from(number) {
             Ok(turns) if turns > 0 => Ok(turns),
             _ => Err(SyntaxFault::at(Wrong::Turns, expression.offset)),

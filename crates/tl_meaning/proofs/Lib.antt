@@ -7,6 +7,7 @@ pub mod DescendRuns
 pub mod EveryRuns
 pub mod IfRuns
 pub mod Leaving
+pub mod LiteralRuns
 pub mod LockRuns
 pub mod LoopRuns
 pub mod LoopSteps

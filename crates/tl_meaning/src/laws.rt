@@ -1,13 +1,13 @@
 //! What holds for every text.
 
-ghost use Rattle.std.specs.Prelude.{◌≡◌, ℕ, ◌<◌, ◌≤◌, None, List, [], Bool, true, false, length, is_some};
+ghost use Rattle.std.specs.Prelude.{◌≡◌, ℕ, ◌<◌, ◌≤◌, None, Some, List, [], Bool, true, false, length, is_some};
 ghost use Rattle.std.specs.Prelude.{ℤ};
 ghost use Rattle.tl_instr.specs.declared.instr.Instr.{Instr};
 ghost use Rattle.tl_instr.specs.declared.operand.TheConstants.{VALUE_REGISTERS, NODE_REGISTERS};
 ghost use Rattle.tl_tree.specs.Records.{Records};
 ghost use Rattle.tl_machine.specs.Runs.{State};
 ghost use Rattle.tl_machine.specs.Left.{Frame};
-ghost use Rattle.tl_machine.specs.Alone.{node, start};
+ghost use Rattle.tl_machine.specs.Alone.{fitting, node, start};
 ghost use Rattle.tl_lowering.specs.declared.program.Condition.{Condition};
 ghost use Rattle.tl_lowering.specs.declared.program.Expression.{Expression};
 ghost use Rattle.tl_lowering.specs.declared.program.Statement.{Statement};
@@ -25,7 +25,7 @@ ghost use Rattle.tl_meaning.specs.Meaning.{is_on, Fails, behaviour, call, number
 ghost use Rattle.tl_lowering.specs.Sound.{IsWellFormed};
 ghost use Rattle.tl_lowering.specs.Names.{Names};
 ghost use Rattle.tl_lowering.specs.Fit.{AllTurn};
-ghost use Rattle.tl_lowering.specs.Naming.{AreWritten};
+ghost use Rattle.tl_lowering.specs.Naming.{AreWritten, IsLiteral};
 ghost use Rattle.tl_lowering.specs.Reading.{IsBody};
 ghost use Rattle.tl_lowering.specs.declared.program.Statement.TheVariants.{Skip};
 ghost use Rattle.tl_syntax.specs.declared.parsed.Declaration.{Declaration};
@@ -44,6 +44,11 @@ pub fn all_is_freed()
 /// changes only its register and free ones.
 pub fn numbers()
     ensures { (code : List Instr) (parents : List ℕ) (frames : List Frame) (e : Expression) (x t failure : ℕ) (rest : List Instr) (s : State) → Runs code → Tail code (into_code e x t failure rest) → failure ≤ length rest → IsInside code frames (length rest) → IsReadable t (held_at s) e → length s.values ≡ VALUE_REGISTERS → NumberLeads code parents frames x t failure (length rest) (from_label code parents frames (length (into_code e x t failure rest)) s) s (number parents e s) }
+{}
+
+/// What is computed for a written number of at most 64 bits is this number, in every state: it doesn't fail.
+pub fn literals()
+    ensures { (parents : List ℕ) (w : ℤ) (e : Expression) (s : State) → IsLiteral w e → fitting w ≡ Some w → number parents e s ≡ Some w }
 {}
 
 /// The code of a condition, run from any state, goes to its label if the condition is as wanted, and otherwise on. If the

@@ -21,7 +21,7 @@ use Rattle.tl_syntax.specs.declared.parsed.Question.{Question}
 use Rattle.tl_syntax.specs.Grammar as G
 use Rattle.tl_syntax.specs.Grammar.{kind_at, offset_at, Stands, IsName, Disjunction, Rule, IsPlain, IsExpression, IsChain}
 use Rattle.tl_syntax.specs.Statements as R
-use Rattle.tl_syntax.specs.Statements.{word_to, IsLeave, IsChange, IsArgument, IsChild, IsPlace, AreExpressions, IsWrite, AreMoreWrites, AreGiven, IsAction, IsQuestion, IsCount}
+use Rattle.tl_syntax.specs.Statements.{word_to, IsLeave, IsChange, IsArgument, IsChild, IsPlace, AreExpressions, IsWrite, AreMoreWrites, AreGiven, IsAction, IsQuestion}
 use Rattle.tl_syntax.specs.Alike as A
 use Rattle.tl_syntax.specs.Alike.{Alike, AlikeForm, AreAlike, AlikeChild, AlikePlace, AlikeWrite, AlikeWrites, AlikeAction, AlikeQuestion}
 use Rattle.tl_syntax.proofs.ListsOnce.{Rest, done, step, append, Compared, within, another_compared, list_end}
@@ -491,16 +491,3 @@ question_once {tokens} {m = m} {k = end} (R.lock {j = a1} s p) f (R.lock {p = q}
     let p2' : IsPlace tokens m a1 end q = at (λ z. IsPlace tokens m z end q) (same_end s s2) p2 in
     let same = place_once p f.no_comma p2' g.no_comma in
     (same.0, A.lock same.1)
-
-abbrev counting : TokenKind → ℕ
-counting (K.Name s) = 1
-counting (K.Number n) = 2
-counting kind = 0
-
-pub count_once : {tokens : List Token} {i j k : ℕ} {e f : Expression} → IsCount tokens i j e → IsCount tokens i k f → (j ≡ k) × Alike e f
-count_once (R.named {n = x} n form o) (R.named n2 form2 o2) =
-    (same_end n.stands n2.stands, A.alike (o ∙ sym o2) (subst₂ AlikeForm (sym form) (sym form2) (subst (λ z. AlikeForm (F.Named x) (F.Named z)) (same_name n n2) A.same_form)))
-count_once (R.named n form o) (R.number n2 form2 o2) = differ counting n.stands.kind_is n2.stands.kind_is (omega arith)
-count_once (R.number n form o) (R.named n2 form2 o2) = differ counting n2.stands.kind_is n.stands.kind_is (omega arith)
-count_once (R.number {n = x} n form o) (R.number n2 form2 o2) =
-    (same_end n.stands n2.stands, A.alike (o ∙ sym o2) (subst₂ AlikeForm (sym form) (sym form2) (subst (λ z. AlikeForm (F.Number x) (F.Number z)) (same_number n n2) A.same_form)))

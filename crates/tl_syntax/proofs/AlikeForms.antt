@@ -63,6 +63,7 @@ joined_rank J.Or a b c d = refl
 joined_rank J.And a b c d = refl
 joined_rank (J.Compare k) a b c d = refl
 joined_rank (J.Calculate o) a b c d = refl
+joined_rank J.Rest a b c d = refl
 
 pub same_rank : {f g : Form} → AlikeForm f g → form_rank f ≡ form_rank g
 same_rank A.same_form = refl
@@ -75,6 +76,7 @@ joined_apart J.Or a b e = omega (arith, e)
 joined_apart J.And a b e = omega (arith, e)
 joined_apart (J.Compare k) a b e = omega (arith, e)
 joined_apart (J.Calculate o) a b e = omega (arith, e)
+joined_apart J.Rest a b e = omega (arith, e)
 
 -- forms without parts are alike only if they are equal
 pub same_plain : {f g : Form} → form_rank f ≤ 3 → AlikeForm f g → f ≡ g
@@ -88,24 +90,28 @@ joined_first J.Or a b c d x = form_of x
 joined_first J.And a b c d x = form_of x
 joined_first (J.Compare k) a b c d x = form_of x
 joined_first (J.Calculate o) a b c d x = form_of x
+joined_first J.Rest a b c d x = form_of x
 
 joined_second : (join : Join) (a b c d : Box Expression Global) → Alike b.value d.value → AlikeForm (second_part (form_by join a b)) (second_part (form_by join c d))
 joined_second J.Or a b c d x = form_of x
 joined_second J.And a b c d x = form_of x
 joined_second (J.Compare k) a b c d x = form_of x
 joined_second (J.Calculate o) a b c d x = form_of x
+joined_second J.Rest a b c d x = form_of x
 
 joined_operator : (join : Join) (a b c d : Box Expression Global) → operator_in (form_by join a b) ≡ operator_in (form_by join c d)
 joined_operator J.Or a b c d = refl
 joined_operator J.And a b c d = refl
 joined_operator (J.Compare k) a b c d = refl
 joined_operator (J.Calculate o) a b c d = refl
+joined_operator J.Rest a b c d = refl
 
 joined_comparison : (join : Join) (a b c d : Box Expression Global) → comparison_in (form_by join a b) ≡ comparison_in (form_by join c d)
 joined_comparison J.Or a b c d = refl
 joined_comparison J.And a b c d = refl
 joined_comparison (J.Compare k) a b c d = refl
 joined_comparison (J.Calculate o) a b c d = refl
+joined_comparison J.Rest a b c d = refl
 
 pub same_first : {f g : Form} → AlikeForm f g → AlikeForm (first_part f) (first_part g)
 same_first A.same_form = A.same_form

@@ -319,19 +319,21 @@ paired_declarations (A.next_declaration h x) = push_declaration x (paired_declar
 
 -- the number of the declaration's variant
 abbrev pub declaration_rank : Declaration → ℕ
-declaration_rank (D.Field name number offset) = 0
+declaration_rank (D.Field name number) = 0
 declaration_rank (D.Constant name value) = 1
 declaration_rank (D.Procedure p) = 2
 declaration_rank (D.Part p) = 3
 
 pub same_declaration_rank : {d e : Declaration} → AlikeDeclaration d e → declaration_rank d ≡ declaration_rank e
 same_declaration_rank A.same_declaration = refl
+same_declaration_rank (A.fields x) = refl
 same_declaration_rank (A.constants x) = refl
 same_declaration_rank (A.procedures x) = refl
 same_declaration_rank (A.parts x) = refl
 
-pub field_of : {n m : Name} {v w : ℤ} {o p : ℕ} → AlikeDeclaration (D.Field n v o) (D.Field m w p) → (n ≡ m) × (v ≡ w)
-field_of A.same_declaration = (refl, refl)
+pub field_of : {n m : Name} {e f : Expression} → AlikeDeclaration (D.Field n e) (D.Field m f) → (n ≡ m) × AlikeForm e.form f.form
+field_of A.same_declaration = (refl, A.same_form)
+field_of (A.fields x) = (refl, form_of x)
 
 pub constant_of : {n m : Name} {e f : Expression} → AlikeDeclaration (D.Constant n e) (D.Constant m f) → (n ≡ m) × AlikeForm e.form f.form
 constant_of A.same_declaration = (refl, A.same_form)

@@ -1,5 +1,5 @@
 -- Tokens denote only one list of declarations.
-use Rattle.std.proofs.Common.{◌≡◌, ℕ, ◌-◌, ◌≤◌, Bool, List, [], ◌∷◌, ◌++◌, refl, sym, ap, ap₂, subst, ◌∙◌, arith}
+use Rattle.std.proofs.Common.{◌≡◌, ℕ, ◌-◌, ◌≤◌, Bool, false, true≢false, List, [], ◌∷◌, ◌++◌, refl, sym, ap, ap₂, subst, ◌∙◌, arith}
 use Rattle.std.proofs.Math.Path.{subst₂}
 use Rattle.std.specs.Prelude.{nat_eq, if◌then◌else◌}
 use Rattle.tl_syntax.specs.declared.token.Token.{Token}
@@ -13,14 +13,14 @@ use Rattle.tl_syntax.specs.declared.parsed.Part.{Part}
 use Rattle.tl_syntax.specs.declared.parsed.Declaration.{Declaration}
 use Rattle.tl_syntax.specs.declared.parsed.Declaration.TheVariants as V
 use Rattle.tl_syntax.specs.declared.parser.TheConstants.{MAX_LEVELS}
-use Rattle.tl_syntax.specs.Grammar.{kind_at, offset_at, Stands, IsName, IsNumber, IsExpression, Disjunction}
+use Rattle.tl_syntax.specs.Grammar.{kind_at, Stands, IsName, IsExpression, Disjunction}
 use Rattle.tl_syntax.specs.Statements.{IsBlock}
 use Rattle.tl_syntax.specs.Declarations as D
-use Rattle.tl_syntax.specs.Declarations.{AreNames, AreArguments, IsMark, IsProcedure, IsParameter, AreParameters, AreTaken, IsPart, IsDeclaration, AreDeclarations, IsFile}
+use Rattle.tl_syntax.specs.Declarations.{AreNames, AreArguments, IsMark, IsProcedure, names_something, IsParameter, AreParameters, AreTaken, IsPart, IsDeclaration, AreDeclarations, IsFile}
 use Rattle.tl_syntax.specs.Alike as A
 use Rattle.tl_syntax.specs.Alike.{AlikeStatements, AlikeProcedure, AlikePart, AlikeDeclaration, AlikeDeclarations}
 use Rattle.tl_syntax.proofs.ListsOnce.{Rest, done, append, Compared, within, another_compared, list_end}
-use Rattle.tl_syntax.proofs.ExpressionsOnce.{same_end, differ, same_name, same_number, once}
+use Rattle.tl_syntax.proofs.ExpressionsOnce.{same_end, differ, same_name, once}
 use Rattle.tl_syntax.proofs.ActionsOnce.{at, ends, NoComma, some_comma, comma}
 use Rattle.tl_syntax.proofs.StatementsOnce.{NoElse, some_else, no_else, block_once}
 
@@ -171,13 +171,24 @@ parting K.Node = 1
 parting (K.Name s) = 1
 parting kind = 0
 
+-- a name stands where none does
+name_behind : {tokens : List Token} {i j k : ℕ} {n : Name} → IsName tokens i k n → i ≡ j → names_something (kind_at tokens j) ≡ false → ⊥
+name_behind {tokens} n same none = true≢false (sym (ap names_something (sym (ap (kind_at tokens) same) ∙ n.stands.kind_is)) ∙ none)
+
 parameter_once : {tokens : List Token} {i j k : ℕ} {p q : Parameter} → IsParameter tokens i j p → IsParameter tokens i k q → (j ≡ k) × (p ≡ q)
 parameter_once {tokens} {k = end} (D.node_parameter {j = a1} s n) (D.node_parameter {n = y} t m) =
     let m' : IsName tokens a1 end y = at (λ z. IsName tokens z end y) (same_end s t) m in
     (same_end n.stands m'.stands, ap P.Node (same_name n m'))
-parameter_once (D.node_parameter s n) (D.value_parameter m) = differ beginning s.kind_is m.stands.kind_is (omega arith)
-parameter_once (D.value_parameter n) (D.node_parameter t m) = differ beginning t.kind_is n.stands.kind_is (omega arith)
-parameter_once (D.value_parameter n) (D.value_parameter m) = (same_end n.stands m.stands, ap P.Value (same_name n m))
+parameter_once (D.node_parameter s n) (D.variable_parameter t m) = differ beginning s.kind_is t.kind_is (omega arith)
+parameter_once (D.node_parameter s n) (D.value_parameter m l) = differ beginning s.kind_is m.stands.kind_is (omega arith)
+parameter_once (D.variable_parameter s n) (D.node_parameter t m) = differ beginning t.kind_is s.kind_is (omega arith)
+parameter_once {tokens} {k = end} (D.variable_parameter {j = a1} s n) (D.variable_parameter {n = y} t m) =
+    let m' : IsName tokens a1 end y = at (λ z. IsName tokens z end y) (same_end s t) m in
+    (same_end n.stands m'.stands, ap P.Variable (same_name n m'))
+parameter_once (D.variable_parameter s n) (D.value_parameter m l) = absurd (name_behind n (same_end s m.stands) l)
+parameter_once (D.value_parameter n l) (D.node_parameter t m) = differ beginning t.kind_is n.stands.kind_is (omega arith)
+parameter_once (D.value_parameter n l) (D.variable_parameter s m) = absurd (name_behind m (same_end s n.stands) l)
+parameter_once (D.value_parameter n l) (D.value_parameter m k) = (same_end n.stands m.stands, ap P.Value (same_name n m))
 
 -- a comma and a parameter
 record IsNextParameter (tokens : List Token) (i k : ℕ) (p : Parameter) : Type 0 where
@@ -219,7 +230,8 @@ parameters_compared {tokens} (D.next_parameter {j = j} {k = m} {l = l} {ps = ps}
 
 parameters_start : {tokens : List Token} {i j : ℕ} {ps : List Parameter} → AreParameters tokens i j ps → parting (kind_at tokens i) ≡ 1
 parameters_start (D.first_parameter (D.node_parameter s n)) = ap parting s.kind_is
-parameters_start (D.first_parameter (D.value_parameter n)) = ap parting n.stands.kind_is
+parameters_start (D.first_parameter (D.variable_parameter s n)) = ap parting s.kind_is
+parameters_start (D.first_parameter (D.value_parameter n l)) = ap parting n.stands.kind_is
 parameters_start (D.next_parameter a s h) = parameters_start a
 
 taken_once : {tokens : List Token} {i j k : ℕ} {ps qs : List Parameter} → AreTaken tokens i j ps → AreTaken tokens i k qs → (j ≡ k) × (ps ≡ qs)
@@ -232,7 +244,7 @@ taken_once {tokens} {k = end} {ps = ps} {qs = qs} (D.some_taken {j = a1} a s) (D
     (same_end s t', same.1)
 
 part_once : {tokens : List Token} {i j k : ℕ} {p q : Part} → IsPart tokens i j p → IsPart tokens i k q → (j ≡ k) × AlikePart p q
-part_once {tokens} {k = end} {q = q} (D.part {j = a1} {k = a2} {l = a3} {m = a4} s n t a b r z) (D.part {k = b2} {l = b3} {m = b4} s2 n2 t2 x2 y2 r2 z2) =
+part_once {tokens} {k = end} {q = q} (D.part {j = a1} {k = a2} {l = a3} {m = a4} s n w t a b r z) (D.part {k = b2} {l = b3} {m = b4} s2 n2 w2 t2 x2 y2 r2 z2) =
     let n2' : IsName tokens a1 b2 q.name = at (λ z. IsName tokens z b2 q.name) (same_end s s2) n2 in
     let t2' : Stands tokens K.LeftParenthesis a2 b3 = at (λ z. Stands tokens K.LeftParenthesis z b3) (same_end n.stands n2'.stands) t2 in
     let x2' : AreTaken tokens a3 b4 q.parameters.items = at (λ z. AreTaken tokens z b4 q.parameters.items) (same_end t t2') x2 in
@@ -263,35 +275,32 @@ procedure_starts (D.procedure r s n t a b none) = mark_starts r s
 procedure_starts (D.procedure_else r s n t a b u c) = mark_starts r s
 
 abbrev rank : {tokens : List Token} {i j : ℕ} {d : Declaration} → IsDeclaration tokens i j d → ℕ
-rank (D.field s n t m u o) = 1
+rank (D.field s n t m u) = 1
 rank (D.constant s n t m u) = 2
 rank (D.procedures p) = 3
 rank (D.parts p) = 4
 
 rank_is : {tokens : List Token} {i j : ℕ} {d : Declaration} (x : IsDeclaration tokens i j d) → declares (kind_at tokens i) ≡ rank x
-rank_is (D.field s n t m u o) = ap declares s.kind_is
+rank_is (D.field s n t m u) = ap declares s.kind_is
 rank_is (D.constant s n t m u) = ap declares s.kind_is
 rank_is (D.procedures p) = procedure_starts p
-rank_is (D.parts (D.part s n t a b r z)) = ap declares s.kind_is
+rank_is (D.parts (D.part s n w t a b r z)) = ap declares s.kind_is
 
 some_rank : {tokens : List Token} {i j : ℕ} {d : Declaration} → IsDeclaration tokens i j d → 1 ≤ declares (kind_at tokens i)
-some_rank (D.field s n t m u o) = omega (arith, ap declares s.kind_is)
+some_rank (D.field s n t m u) = omega (arith, ap declares s.kind_is)
 some_rank (D.constant s n t m u) = omega (arith, ap declares s.kind_is)
 some_rank (D.procedures p) = omega (arith, procedure_starts p)
-some_rank (D.parts (D.part s n t a b r z)) = omega (arith, ap declares s.kind_is)
+some_rank (D.parts (D.part s n w t a b r z)) = omega (arith, ap declares s.kind_is)
 
 declaration_once : {tokens : List Token} {i j k : ℕ} {d e : Declaration} → IsDeclaration tokens i j d → NoElse tokens j → IsDeclaration tokens i k e → NoElse tokens k →
     (j ≡ k) × AlikeDeclaration d e
-declaration_once {tokens} {k = end} (D.field {j = a1} {k = a2} {l = a3} {m = a4} {offset = o1} {n = x} {number = v} s n t m u o) f (D.field {k = b2} {l = b3} {m = b4} {offset = o2} {n = y} {number = w} s2 n2 t2 m2 u2 p) g =
+declaration_once {tokens} {k = end} (D.field {j = a1} {k = a2} {l = a3} {m = a4} {n = x} {number = v} s n t m u) f (D.field {k = b2} {l = b3} {m = b4} {n = y} {number = w} s2 n2 t2 m2 u2) g =
     let n2' : IsName tokens a1 b2 y = at (λ z. IsName tokens z b2 y) (same_end s s2) n2 in
     let t2' : Stands tokens K.Assign a2 b3 = at (λ z. Stands tokens K.Assign z b3) (same_end n.stands n2'.stands) t2 in
-    let m2' : IsNumber tokens a3 b4 w = at (λ z. IsNumber tokens z b4 w) (same_end t t2') m2 in
-    let u2' : Stands tokens K.Semicolon a4 end = at (λ z. Stands tokens K.Semicolon z end) (same_end m.stands m2'.stands) u2 in
-    let offsets : o1 ≡ o2 = o ∙ ap (λ z. offset_at tokens z) (same_end t t2') ∙ sym p in (
-      same_end u u2',
-      subst (λ z. AlikeDeclaration (V.Field x v o1) (V.Field z w o2)) (same_name n n2')
-          (subst₂ (λ z q. AlikeDeclaration (V.Field x v o1) (V.Field x z q)) (same_number m m2') offsets A.same_declaration),
-    )
+    let m2' : IsExpression tokens MAX_LEVELS Disjunction a3 b4 w = at (λ z. IsExpression tokens MAX_LEVELS Disjunction z b4 w) (same_end t t2') m2 in
+    let same = once m (ends u.kind_is refl) MAX_LEVELS b4 w m2' (ends u2.kind_is refl) in
+    let u2' : Stands tokens K.Semicolon a4 end = at (λ z. Stands tokens K.Semicolon z end) same.0 u2 in
+    (same_end u u2', subst (λ z. AlikeDeclaration (V.Field x v) (V.Field z w)) (same_name n n2') (A.fields same.1))
 declaration_once {tokens} {k = end} (D.constant {j = a1} {k = a2} {l = a3} {m = a4} {n = x} {value = v} s n t m u) f (D.constant {k = b2} {l = b3} {m = b4} {n = y} {value = w} s2 n2 t2 m2 u2) g =
     let n2' : IsName tokens a1 b2 y = at (λ z. IsName tokens z b2 y) (same_end s s2) n2 in
     let t2' : Stands tokens K.Assign a2 b3 = at (λ z. Stands tokens K.Assign z b3) (same_end n.stands n2'.stands) t2 in

@@ -16,7 +16,7 @@ use Rattle.tl_syntax.specs.declared.parsed.Form.TheVariants as F
 use Rattle.tl_syntax.specs.declared.expressions.Join.{Join}
 use Rattle.tl_syntax.specs.declared.expressions.Join.TheVariants as J
 use Rattle.tl_syntax.specs.Grammar as G
-use Rattle.tl_syntax.specs.Grammar.{kind_at, offset_at, Stands, IsName, IsNumber, IsNegative, IsNoNumber, IsAdditive, IsMultiplicative, IsComparison, IsOperator, form_by, IsJoined, Rule, Disjunction, Conjunction, Negation, Relation, Sum, Term, Unary, Atom, tighter, IsPlain, IsExpression, IsChain}
+use Rattle.tl_syntax.specs.Grammar.{kind_at, offset_at, Stands, IsName, IsNumber, IsNegative, IsNoNumber, IsAdditive, IsMultiplicative, IsComparison, IsOperator, form_by, IsMade, IsJoined, Rule, Disjunction, Conjunction, Negation, Relation, Sum, Term, Unary, Atom, tighter, IsPlain, IsExpression, IsChain}
 use Rattle.tl_syntax.specs.Alike as A
 use Rattle.tl_syntax.specs.Alike.{Alike, AlikeForm}
 
@@ -71,6 +71,7 @@ binding K.Plus = 4
 binding K.Minus = 4
 binding K.Times = 5
 binding K.Divide = 5
+binding K.Remainder = 5
 binding K.Dot = 6
 binding kind = 0
 
@@ -109,6 +110,7 @@ sign (J.Calculate O.Add) = K.Plus
 sign (J.Calculate O.Subtract) = K.Minus
 sign (J.Calculate O.Multiply) = K.Times
 sign (J.Calculate O.Divide) = K.Divide
+sign J.Rest = K.Remainder
 sign (J.Compare C.Less) = K.Less
 sign (J.Compare C.LessOrEqual) = K.LessOrEqual
 sign (J.Compare C.Greater) = K.Greater
@@ -124,6 +126,7 @@ join_of K.Plus = J.Calculate O.Add
 join_of K.Minus = J.Calculate O.Subtract
 join_of K.Times = J.Calculate O.Multiply
 join_of K.Divide = J.Calculate O.Divide
+join_of K.Remainder = J.Rest
 join_of K.Less = J.Compare C.Less
 join_of K.LessOrEqual = J.Compare C.LessOrEqual
 join_of K.Greater = J.Compare C.Greater
@@ -140,6 +143,7 @@ join_of_sign (J.Calculate O.Add) = refl
 join_of_sign (J.Calculate O.Subtract) = refl
 join_of_sign (J.Calculate O.Multiply) = refl
 join_of_sign (J.Calculate O.Divide) = refl
+join_of_sign J.Rest = refl
 join_of_sign (J.Compare C.Less) = refl
 join_of_sign (J.Compare C.LessOrEqual) = refl
 join_of_sign (J.Compare C.Greater) = refl
@@ -169,6 +173,7 @@ is_sign tokens Sum (J.Calculate O.Add) i j s = record { chains = tt; stands = s;
 is_sign tokens Sum (J.Calculate O.Subtract) i j s = record { chains = tt; stands = s; binds = refl; follows = omega arith }
 is_sign tokens Term (J.Calculate O.Multiply) i j s = record { chains = tt; stands = s; binds = refl; follows = omega arith }
 is_sign tokens Term (J.Calculate O.Divide) i j s = record { chains = tt; stands = s; binds = refl; follows = omega arith }
+is_sign tokens Term J.Rest i j s = record { chains = tt; stands = s; binds = refl; follows = omega arith }
 is_sign tokens rule join i j s = absurd s
 
 comparison_stands : (tokens : List Token) (c : Comparison) (i j : ℕ) → IsComparison tokens i j c → Stands tokens (sign (J.Compare c)) i j
@@ -261,11 +266,18 @@ offset_same (A.alike o form) = o
 form_alike : {e f : Expression} → Alike e f → AlikeForm e.form f.form
 form_alike (A.alike o form) = form
 
-alike_joined : {join : Join} {a b c d e f : Expression} → IsJoined join a b e → IsJoined join c d f → Alike a c → Alike b d → Alike e f
-alike_joined {join} {e = e} {f = f} x y ac bd =
+alike_made : {join : Join} {a b c d e f : Expression} → IsMade join a b e → IsMade join c d f → Alike a c → Alike b d → Alike e f
+alike_made {join} {e = e} {f = f} x y ac bd =
     let left : Alike x.left.value y.left.value = subst₂ Alike (sym x.left_is) (sym y.left_is) ac in
     let right : Alike x.right.value y.right.value = subst₂ Alike (sym x.right_is) (sym y.right_is) bd in
     A.alike (x.offset_is ∙ offset_same ac ∙ sym y.offset_is) (subst₂ AlikeForm (sym x.form_is) (sym y.form_is) (A.joined join x.left x.right y.left y.right left right))
+
+alike_joined : {join : Join} {a b c d e f : Expression} → IsJoined join a b e → IsJoined join c d f → Alike a c → Alike b d → Alike e f
+alike_joined (G.directly n x) (G.directly m y) ac bd = alike_made x y ac bd
+alike_joined (G.directly n x) (G.as_rest e y) ac bd = absurd (n e)
+alike_joined (G.as_rest e x) (G.directly n y) ac bd = absurd (n e)
+alike_joined (G.as_rest e x) (G.as_rest g y) ac bd =
+    alike_made x.difference_is y.difference_is ac (alike_made x.product_is y.product_is (alike_made x.quotient_is y.quotient_is ac bd) bd)
 
 -- all expressions of this rule that begin at i and may end where they do are alike and end at the same token
 abbrev pub Once : List Token → Rule → ℕ → ℕ → Expression → Type 0

@@ -44,6 +44,7 @@ same_kind K.Plus K.Plus e = refl
 same_kind K.Minus K.Minus e = refl
 same_kind K.Times K.Times e = refl
 same_kind K.Divide K.Divide e = refl
+same_kind K.Remainder K.Remainder e = refl
 same_kind K.Less K.Less e = refl
 same_kind K.LessOrEqual K.LessOrEqual e = refl
 same_kind K.Greater K.Greater e = refl

@@ -29,6 +29,7 @@ short_no_name (T.plus e) = refl
 short_no_name (T.minus e) = refl
 short_no_name (T.times e) = refl
 short_no_name (T.divide e) = refl
+short_no_name (T.remainder e) = refl
 short_no_name (T.less_sign e) = refl
 short_no_name (T.greater_sign e) = refl
 

@@ -20,12 +20,12 @@ use Rattle.tl_syntax.specs.declared.parsed.StatementForm.{StatementForm}
 use Rattle.tl_syntax.specs.declared.parsed.StatementForm.TheVariants as S
 use Rattle.tl_syntax.specs.Grammar.{kind_at, offset_at, Stands, IsName, Disjunction, IsExpression}
 use Rattle.tl_syntax.specs.Statements as R
-use Rattle.tl_syntax.specs.Statements.{word_at, word_most, word_each, word_of, word_while, IsLeave, IsChange, IsAction, IsQuestion, IsCount, IsIndex, IsLeaving, IsBlock, AreStatements, IsStatement, IsForm, IsOnly, AreTwo, IsBoundedLoop, RequiresNot, IsWhile, IsLooped, MayEnd, IsOther, IsOtherwise}
+use Rattle.tl_syntax.specs.Statements.{word_at, word_most, word_each, word_of, word_while, IsLeave, IsChange, IsAction, IsQuestion, IsIndex, IsLeaving, IsBlock, AreStatements, IsStatement, IsForm, IsOnly, AreTwo, IsBoundedLoop, RequiresNot, IsWhile, IsLooped, MayEnd, IsOther, IsOtherwise}
 use Rattle.tl_syntax.specs.Alike as A
 use Rattle.tl_syntax.specs.Alike.{Alike, AlikeForm, AlikeAction, AlikeStatements, AlikeStatement, AlikeStatementForm, AlikeOtherwise}
 use Rattle.tl_syntax.proofs.ListsOnce.{Rest, done, append, Compared, within, another_compared, list_end}
 use Rattle.tl_syntax.proofs.ExpressionsOnce.{same_end, differ, same_name, once}
-use Rattle.tl_syntax.proofs.ActionsOnce.{at, ends, begins, expression_begins, same_leave, ends_here, heading, action_is, action_once, question_once, count_once}
+use Rattle.tl_syntax.proofs.ActionsOnce.{at, ends, begins, expression_begins, same_leave, ends_here, heading, action_is, action_once, question_once}
 
 leaving_once : {tokens : List Token} {i j k : ℕ} {ss ts : List Statement} → IsLeaving tokens i j ss → IsLeaving tokens i k ts → (j ≡ k) × AlikeStatements ss ts
 leaving_once {tokens} {i = i} {k = end} (R.leaving {j = a1} {l = l} x s form o) (R.leaving {j = b1} {l = r} y t form2 o2) =
@@ -173,8 +173,8 @@ while_once {tokens} {m = m} {k = end} {d = d} {more = more} (R.heads {j = a1} {k
     let asked = once e (ends s.kind_is refl) m b1 d e2 (ends s2.kind_is refl) in
     let s2' : Stands tokens word_at a1 b2 = at (λ z. Stands tokens word_at z b2) asked.0 s2 in
     let t2' : Stands tokens word_most a2 b3 = at (λ z. Stands tokens word_most z b3) (same_end s s2') t2 in
-    let c2' : IsCount tokens a3 end more = at (λ z. IsCount tokens z end more) (same_end t t2') c2 in
-    let most = count_once c c2' in
+    let c2' : IsExpression tokens m Disjunction a3 end more = at (λ z. IsExpression tokens m Disjunction z end more) (same_end t t2') c2 in
+    let most = once c (ends f refl) m end more c2' (ends g refl) in
     (most.0, asked.1, most.1)
 
 looped_once : {tokens : List Token} {n m i offset : ℕ} {c d most more : Expression} {xs ys : Vec Statement Global} {ss ts : List Statement} → Alike c d → Alike most more →
@@ -322,8 +322,8 @@ mutual
       let turns = once e (ends t.kind_is refl) m b2 e2 h2' (ends t2.kind_is refl) in
       let t2' : Stands tokens word_at a2 b3 = at (λ z. Stands tokens word_at z b3) turns.0 t2 in
       let u2' : Stands tokens word_most a3 b4 = at (λ z. Stands tokens word_most z b4) (same_end t t2') u2 in
-      let c2' : IsCount tokens a4 b5 most2 = at (λ z. IsCount tokens z b5 most2) (same_end u u2') c2 in
-      let most = count_once c c2' in
+      let c2' : IsExpression tokens m Disjunction a4 b5 most2 = at (λ z. IsExpression tokens m Disjunction z b5 most2) (same_end u u2') c2 in
+      let most = once c (ends (block_starts b) refl) m b5 most2 c2' (ends (block_starts b') refl) in
       let d2 : IsBlock tokens m a5 end body2.items = at (λ z. IsBlock tokens m z end body2.items) most.0 b' in
       let first = block_once b d2 in
       (first.0, A.repeat_at_most body body2 turns.1 most.1 first.1)
@@ -339,8 +339,8 @@ mutual
       let m2' : IsName tokens a6 b7 y2 = at (λ z. IsName tokens z b7 y2) (same_end s4 t4') m2 in
       let t5' : Stands tokens word_at a7 b8 = at (λ z. Stands tokens word_at z b8) (same_end n2.stands m2'.stands) t5 in
       let t6' : Stands tokens word_most a8 b9 = at (λ z. Stands tokens word_most z b9) (same_end s5 t5') t6 in
-      let d' : IsCount tokens a9 b10 most2 = at (λ z. IsCount tokens z b10 most2) (same_end s6 t6') d in
-      let most = count_once c d' in
+      let d' : IsExpression tokens m Disjunction a9 b10 most2 = at (λ z. IsExpression tokens m Disjunction z b10 most2) (same_end s6 t6') d in
+      let most = once c (ends (block_starts b) refl) m b10 most2 d' (ends (block_starts b') refl) in
       let b2' : IsBlock tokens m a10 end body2.items = at (λ z. IsBlock tokens m z end body2.items) most.0 b' in
       let first = block_once b b2' in
       let alike : AlikeStatementForm (S.ForEach x z1 y most1 body) (S.ForEach x z2 y most2 body2) =

@@ -31,9 +31,10 @@ short_of b =
     if b == 45 then K.Minus else (
     if b == 42 then K.Times else (
     if b == 47 then K.Divide else (
+    if b == 37 then K.Remainder else (
     if b == 60 then K.Less else (
     if b == 62 then K.Greater else (
-    K.End))))))))))))))
+    K.End)))))))))))))))
 
 long_of : ℕ → TokenKind
 long_of b =
@@ -86,6 +87,7 @@ short_is (T.plus e) = ap short_of e
 short_is (T.minus e) = ap short_of e
 short_is (T.times e) = ap short_of e
 short_is (T.divide e) = ap short_of e
+short_is (T.remainder e) = ap short_of e
 short_is (T.less_sign e) = ap short_of e
 short_is (T.greater_sign e) = ap short_of e
 
@@ -137,6 +139,7 @@ short_sign (T.plus e) = subst IsSign (sym e) (refl, refl, refl)
 short_sign (T.minus e) = subst IsSign (sym e) (refl, refl, refl)
 short_sign (T.times e) = subst IsSign (sym e) (refl, refl, refl)
 short_sign (T.divide e) = subst IsSign (sym e) (refl, refl, refl)
+short_sign (T.remainder e) = subst IsSign (sym e) (refl, refl, refl)
 short_sign (T.less_sign e) = subst IsSign (sym e) (refl, refl, refl)
 short_sign (T.greater_sign e) = subst IsSign (sym e) (refl, refl, refl)
 

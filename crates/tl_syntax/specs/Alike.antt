@@ -122,6 +122,7 @@ pub record AlikePart (p q : Part) : Type 0 where
 
 pub data AlikeDeclaration : Declaration → Declaration → Type 0 where
   same_declaration : {d : Declaration} → AlikeDeclaration d d
+  fields : {n : Name} {e f : Expression} → Alike e f → AlikeDeclaration (D.Field n e) (D.Field n f)
   constants : {n : Name} {e f : Expression} → Alike e f → AlikeDeclaration (D.Constant n e) (D.Constant n f)
   procedures : {p q : Procedure} → AlikeProcedure p q → AlikeDeclaration (D.Procedure p) (D.Procedure q)
   parts : {p q : Part} → AlikePart p q → AlikeDeclaration (D.Part p) (D.Part q)

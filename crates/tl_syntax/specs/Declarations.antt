@@ -1,5 +1,5 @@
 -- The grammar of declarations. Each rule says what the tokens from i up to but not including j denote.
-use Rattle.std.specs.Prelude.{◌≡◌, ◌≢◌, ℕ, ◌-◌, ◌<◌, ◌≤◌, List, [], ◌∷◌, ◌++◌, Bool, true, false, ℤ}
+use Rattle.std.specs.Prelude.{◌≡◌, ◌≢◌, ℕ, ◌-◌, ◌<◌, ◌≤◌, List, [], ◌∷◌, ◌++◌, Bool, true, false}
 use Rattle.tl_syntax.specs.declared.token.Token.{Token}
 use Rattle.tl_syntax.specs.declared.token.TokenKind.{TokenKind}
 use Rattle.tl_syntax.specs.declared.token.TokenKind.TheVariants as K
@@ -12,8 +12,8 @@ use Rattle.tl_syntax.specs.declared.parsed.Part.{Part}
 use Rattle.tl_syntax.specs.declared.parsed.Declaration.{Declaration}
 use Rattle.tl_syntax.specs.declared.parsed.Declaration.TheVariants as D
 use Rattle.tl_syntax.specs.declared.parser.TheConstants.{MAX_LEVELS}
-use Rattle.tl_syntax.specs.Grammar.{kind_at, offset_at, Stands, IsName, IsNumber, IsExpression, Disjunction}
-use Rattle.tl_syntax.specs.Statements.{IsBlock}
+use Rattle.tl_syntax.specs.Grammar.{kind_at, Stands, IsName, IsExpression, Disjunction}
+use Rattle.tl_syntax.specs.Statements.{word_while, IsBlock}
 
 -- one or more names, separated by commas
 pub data AreNames (tokens : List Token) : ℕ → ℕ → List Name → Type 0 where
@@ -45,10 +45,19 @@ pub data IsProcedure (tokens : List Token) : ℕ → ℕ → Procedure → Type 
 abbrev pub word_part : TokenKind
 word_part = K.Name (record { 0 = 7 })
 
--- a name for a node or a number that a part is given
+abbrev pub word_var : TokenKind
+word_var = K.Name (record { 0 = 8 })
+
+-- whether a token is a name
+abbrev pub names_something : TokenKind → Bool
+names_something (K.Name symbol) = true
+names_something kind = false
+
+-- a name for what a part is given: for a node, a value that it may change, or a number
 pub data IsParameter (tokens : List Token) : ℕ → ℕ → Parameter → Type 0 where
   node_parameter : {i j k : ℕ} {n : Name} → Stands tokens K.Node i j → IsName tokens j k n → IsParameter tokens i k (P.Node n)
-  value_parameter : {i j : ℕ} {n : Name} → IsName tokens i j n → IsParameter tokens i j (P.Value n)
+  variable_parameter : {i j k : ℕ} {n : Name} → Stands tokens word_var i j → IsName tokens j k n → IsParameter tokens i k (P.Variable n)
+  value_parameter : {i j : ℕ} {n : Name} → IsName tokens i j n → names_something (kind_at tokens j) ≡ false → IsParameter tokens i j (P.Value n)
 
 -- one or more parameters, separated by commas
 pub data AreParameters (tokens : List Token) : ℕ → ℕ → List Parameter → Type 0 where
@@ -65,15 +74,14 @@ pub data AreTaken (tokens : List Token) : ℕ → ℕ → List Parameter → Typ
 abbrev pub HasNoReturn : List Token → ℕ → ℕ → Type 0
 HasNoReturn tokens i j = (k : ℕ) → i ≤ k → k < j → kind_at tokens k ≢ K.Return
 
--- a part: its name, its parameters, and a body without `return`, whose size is the number of its tokens
+-- a part: its name, which isn't `while`, its parameters, and a body without `return`, whose size is the number of its tokens
 pub data IsPart (tokens : List Token) : ℕ → ℕ → Part → Type 0 where
-  part : {i j k l m n : ℕ} {p : Part} → Stands tokens word_part i j → IsName tokens j k p.name → Stands tokens K.LeftParenthesis k l →
+  part : {i j k l m n : ℕ} {p : Part} → Stands tokens word_part i j → IsName tokens j k p.name → K.Name p.name.symbol ≢ word_while → Stands tokens K.LeftParenthesis k l →
       AreTaken tokens l m p.parameters.items → IsBlock tokens MAX_LEVELS m n p.body.items → HasNoReturn tokens m n → p.size ≡ n - m → IsPart tokens i n p
 
 pub data IsDeclaration (tokens : List Token) : ℕ → ℕ → Declaration → Type 0 where
-  -- the offset is that of the number
-  field : {i j k l m o offset : ℕ} {n : Name} {number : ℤ} → Stands tokens K.Field i j → IsName tokens j k n → Stands tokens K.Assign k l →
-      IsNumber tokens l m number → Stands tokens K.Semicolon m o → offset ≡ offset_at tokens l → IsDeclaration tokens i o (D.Field n number offset)
+  field : {i j k l m o : ℕ} {n : Name} {number : Expression} → Stands tokens K.Field i j → IsName tokens j k n → Stands tokens K.Assign k l →
+      IsExpression tokens MAX_LEVELS Disjunction l m number → Stands tokens K.Semicolon m o → IsDeclaration tokens i o (D.Field n number)
   constant : {i j k l m o : ℕ} {n : Name} {value : Expression} → Stands tokens K.Const i j → IsName tokens j k n → Stands tokens K.Assign k l →
       IsExpression tokens MAX_LEVELS Disjunction l m value → Stands tokens K.Semicolon m o → IsDeclaration tokens i o (D.Constant n value)
   procedures : {i j : ℕ} {p : Procedure} → IsProcedure tokens i j p → IsDeclaration tokens i j (D.Procedure p)

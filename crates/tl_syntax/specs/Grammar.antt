@@ -70,10 +70,11 @@ IsAdditive tokens i j O.Add = Stands tokens K.Plus i j
 IsAdditive tokens i j O.Subtract = Stands tokens K.Minus i j
 IsAdditive tokens i j operator = ⊥
 
-abbrev pub IsMultiplicative : List Token → ℕ → ℕ → Operator → Type 0
-IsMultiplicative tokens i j O.Multiply = Stands tokens K.Times i j
-IsMultiplicative tokens i j O.Divide = Stands tokens K.Divide i j
-IsMultiplicative tokens i j operator = ⊥
+abbrev pub IsMultiplicative : List Token → ℕ → ℕ → Join → Type 0
+IsMultiplicative tokens i j (J.Calculate O.Multiply) = Stands tokens K.Times i j
+IsMultiplicative tokens i j (J.Calculate O.Divide) = Stands tokens K.Divide i j
+IsMultiplicative tokens i j J.Rest = Stands tokens K.Remainder i j
+IsMultiplicative tokens i j join = ⊥
 
 abbrev pub IsComparison : List Token → ℕ → ℕ → Comparison → Type 0
 IsComparison tokens i j C.Less = Stands tokens K.Less i j
@@ -83,20 +84,45 @@ IsComparison tokens i j C.GreaterOrEqual = Stands tokens K.GreaterOrEqual i j
 IsComparison tokens i j C.Equal = Stands tokens K.Equal i j
 IsComparison tokens i j C.NotEqual = Stands tokens K.NotEqual i j
 
+-- a rest is a difference
 abbrev pub form_by : Join → Box Expression Global → Box Expression Global → Form
 form_by J.Or a b = F.Or a b
 form_by J.And a b = F.And a b
 form_by (J.Compare comparison) a b = F.Compared comparison a b
 form_by (J.Calculate operator) a b = F.Calculated operator a b
+form_by J.Rest a b = F.Calculated O.Subtract a b
 
--- two expressions joined by an operator; the offset is that of the first one
-pub record IsJoined (join : Join) (a b e : Expression) : Type 0 where
+-- the expression of an operator and its two sides; the offset is that of the first one
+pub record IsMade (join : Join) (a b e : Expression) : Type 0 where
   pub left : Box Expression Global
   pub right : Box Expression Global
   pub left_is : left.value ≡ a
   pub right_is : right.value ≡ b
   pub form_is : e.form ≡ form_by join left right
   pub offset_is : e.offset ≡ a.offset
+
+-- a number, a name, a field, or the number of a node's children
+abbrev pub IsShort : Form → Type 0
+IsShort (F.Number n) = Unit {0}
+IsShort (F.Named name) = Unit {0}
+IsShort (F.Field node field) = Unit {0}
+IsShort (F.Children node) = Unit {0}
+IsShort form = ⊥
+
+-- `a % b` is `a - a / b * b`, for short sides
+pub record IsRest (a b e : Expression) : Type 0 where
+  pub quotient : Expression
+  pub product : Expression
+  pub left_short : IsShort a.form
+  pub right_short : IsShort b.form
+  pub quotient_is : IsMade (J.Calculate O.Divide) a b quotient
+  pub product_is : IsMade (J.Calculate O.Multiply) quotient b product
+  pub difference_is : IsMade J.Rest a product e
+
+-- two expressions joined by an operator
+pub data IsJoined (join : Join) (a b e : Expression) : Type 0 where
+  directly : join ≢ J.Rest → IsMade join a b e → IsJoined join a b e
+  as_rest : join ≡ J.Rest → IsRest a b e → IsJoined join a b e
 
 -- the rules of expressions, from the one that binds least tightly
 pub data Rule : Type 0 where
@@ -133,7 +159,7 @@ abbrev pub IsOperator : List Token → Rule → ℕ → ℕ → Join → Type 0
 IsOperator tokens Disjunction i j J.Or = Stands tokens K.Or i j
 IsOperator tokens Conjunction i j J.And = Stands tokens K.And i j
 IsOperator tokens Sum i j (J.Calculate operator) = IsAdditive tokens i j operator
-IsOperator tokens Term i j (J.Calculate operator) = IsMultiplicative tokens i j operator
+IsOperator tokens Term i j join = IsMultiplicative tokens i j join
 IsOperator tokens rule i j join = ⊥
 
 -- `levels` is the number of levels that may still be opened. A `not`, a minus sign and a parenthesis each open a level

@@ -25,7 +25,7 @@ use Rattle.tl_syntax.specs.declared.parsed.Otherwise.{Otherwise, out-Otherwise}
 use Rattle.tl_syntax.specs.declared.parsed.Statement.{Statement}
 use Rattle.tl_syntax.specs.declared.parsed.StatementForm.{StatementForm}
 use Rattle.tl_syntax.specs.declared.parsed.StatementForm.TheVariants as S
-use Rattle.tl_syntax.specs.Grammar.{kind_at, offset_at, Stands, IsName, IsNumber, IsExpression, Disjunction}
+use Rattle.tl_syntax.specs.Grammar.{kind_at, offset_at, Stands, IsName, IsExpression, Disjunction}
 
 -- the words that may also be used as names have the first symbols
 abbrev pub word_at : TokenKind
@@ -127,11 +127,6 @@ pub data IsQuestion (tokens : List Token) (levels : ℕ) : ℕ → ℕ → Quest
   condition : {i j : ℕ} {e : Expression} → IsExpression tokens levels Disjunction i j e → IsQuestion tokens levels i j (Q.Condition e)
   lock : {i j k : ℕ} {p : Place} → Stands tokens K.Lock i j → IsPlace tokens levels j k p → IsQuestion tokens levels i k (Q.Lock p)
 
--- the largest number of turns of a loop
-pub data IsCount (tokens : List Token) : ℕ → ℕ → Expression → Type 0 where
-  named : {i j : ℕ} {n : Name} {e : Expression} → IsName tokens i j n → e.form ≡ F.Named n → e.offset ≡ offset_at tokens i → IsCount tokens i j e
-  number : {i j : ℕ} {n : _} {e : Expression} → IsNumber tokens i j n → e.form ≡ F.Number n → e.offset ≡ offset_at tokens i → IsCount tokens i j e
-
 -- the name of the index of a loop's child, in parentheses, if it is given
 pub data IsIndex (tokens : List Token) : ℕ → ℕ → Option Name → Type 0 where
   no_index : {i : ℕ} → IsIndex tokens i i None
@@ -164,7 +159,7 @@ pub data RequiresNot (tokens : List Token) (levels i offset : ℕ) : StatementFo
 -- a `while` up to its block: its condition, and how often it turns at most
 pub data IsWhile (tokens : List Token) (levels : ℕ) : ℕ → ℕ → Expression → Expression → Type 0 where
   heads : {i j k l m : ℕ} {condition most : Expression} → IsExpression tokens levels Disjunction i j condition → Stands tokens word_at j k →
-      Stands tokens word_most k l → IsCount tokens l m most → IsWhile tokens levels i m condition most
+      Stands tokens word_most k l → IsExpression tokens levels Disjunction l m most → IsWhile tokens levels i m condition most
 
 -- the loop of a `while`, whose condition begins at i, and a statement behind it that fails if the condition holds
 pub data IsLooped (tokens : List Token) (levels i offset : ℕ) (condition most : Expression) (body : Vec Statement Global) (all : List Statement) : Type 0 where
@@ -205,11 +200,11 @@ mutual
     repeat : {levels i j k l : ℕ} {turns : Expression} (body : Vec Statement Global) → Stands tokens K.Repeat i j → IsExpression tokens levels Disjunction j k turns →
         IsBlock tokens levels k l body.items → IsForm tokens levels i l (S.Repeat turns None body)
     repeat_at_most : {levels i j k l m n o : ℕ} {turns most : Expression} (body : Vec Statement Global) → Stands tokens K.Repeat i j →
-        IsExpression tokens levels Disjunction j k turns → Stands tokens word_at k l → Stands tokens word_most l m → IsCount tokens m n most →
+        IsExpression tokens levels Disjunction j k turns → Stands tokens word_at k l → Stands tokens word_most l m → IsExpression tokens levels Disjunction m n most →
         IsBlock tokens levels n o body.items → IsForm tokens levels i o (S.Repeat turns (Some most) body)
     for_each : {levels i j k l m n o p q r s t : ℕ} {child parent : Name} {place : Option Name} {most : Expression} (body : Vec Statement Global) → Stands tokens K.For i j →
         Stands tokens word_each j k → Stands tokens K.Child k l → IsName tokens l m child → IsIndex tokens m n place → Stands tokens word_of n o →
-        IsName tokens o p parent → Stands tokens word_at p q → Stands tokens word_most q r → IsCount tokens r s most → IsBlock tokens levels s t body.items →
+        IsName tokens o p parent → Stands tokens word_at p q → Stands tokens word_most q r → IsExpression tokens levels Disjunction r s most → IsBlock tokens levels s t body.items →
         IsForm tokens levels i t (S.ForEach child place parent most body)
     block_alone : {levels i j : ℕ} (body : Vec Statement Global) → IsBlock tokens levels i j body.items → IsForm tokens levels i j (S.Block body)
     -- behind the loop the condition doesn't hold

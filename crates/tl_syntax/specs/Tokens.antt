@@ -58,6 +58,7 @@ pub data IsShortSign (byte : ℕ) : TokenKind → Type 0 where
   minus : byte ≡ 45 → IsShortSign byte K.Minus
   times : byte ≡ 42 → IsShortSign byte K.Times
   divide : byte ≡ 47 → IsShortSign byte K.Divide
+  remainder : byte ≡ 37 → IsShortSign byte K.Remainder
   less_sign : byte ≡ 60 → IsShortSign byte K.Less
   greater_sign : byte ≡ 62 → IsShortSign byte K.Greater
 
@@ -174,7 +175,7 @@ pub record Extends (old new : List (List ℕ)) : Type 0 where
 
 -- the words that may also be used as names; they are the first names
 abbrev pub first_names : List (List ℕ)
-first_names = codes "at" ∷ codes "each" ∷ codes "most" ∷ codes "of" ∷ codes "to" ∷ codes "atomic" ∷ codes "while" ∷ codes "part" ∷ []
+first_names = codes "at" ∷ codes "each" ∷ codes "most" ∷ codes "of" ∷ codes "to" ∷ codes "atomic" ∷ codes "while" ∷ codes "part" ∷ codes "var" ∷ []
 
 -- the names are those of the grammar and then those of the tokens, in order of appearance
 abbrev pub AreNamesOf : List Token → List (List ℕ) → Type 0

@@ -1,11 +1,14 @@
 // Fields, constants, parts and procedures: each function reads one rule of the grammar.
 
-ghost use Rattle.std.specs.Prelude.{IfOk, OnOk};
+ghost use Rattle.std.specs.Prelude.{◌≡◌, ◌≢◌, IfOk, OnOk};
+ghost use Rattle.tl_syntax.specs.Grammar.{kind_at, IsName};
+ghost use Rattle.tl_syntax.specs.Statements.{word_while};
 ghost use Rattle.tl_syntax.specs.Declarations.{
   AreNames,
   AreArguments,
   IsMark,
   IsProcedure,
+  names_something,
   IsParameter,
   AreParameters,
   AreTaken,
@@ -27,15 +30,9 @@ impl<'a> Parser<'a> {
         let at = self.skip(at, TokenKind::Field)?;
         let (name, at) = self.name(at)?;
         let at = self.skip(at, TokenKind::Assign)?;
-        let offset = self.offset(at);
-        let (number, at) = self.number(at)?;
+        let (number, at) = self.expression(at, MAX_LEVELS)?;
         let at = self.skip(at, TokenKind::Semicolon)?;
-        let declaration = Declaration::Field {
-            name,
-            number,
-            offset,
-        };
-        Ok((declaration, at))
+        Ok((Declaration::Field { name, number }, at))
     }
 
     fn constant(&self, at: usize) -> Parsed<Declaration>
@@ -120,7 +117,14 @@ impl<'a> Parser<'a> {
         Ok((procedure, after))
     }
 
-    // A name for what a part is given.
+    // Whether a name stands here.
+    fn is_name(&self, at: usize) -> bool
+        ensures { result ≡ names_something (kind_at self.now.tokens.now at) }
+    {
+        matches!(self.kind(at), TokenKind::Name(_))
+    }
+
+    // A name for what a part is given. The word `var` before a name says that the part may change it.
     fn parameter(&self, at: usize) -> Parsed<Parameter>
         ensures { IfOk result (λ read. IsParameter self.now.tokens.now at read.1 read.0) }
     {
@@ -128,8 +132,16 @@ impl<'a> Parser<'a> {
             let (name, at) = self.name(next)?;
             return Ok((Parameter::Node(name), at));
         }
-        let (name, at) = self.name(at)?;
-        Ok((Parameter::Value(name), at))
+        let (name, next) = self.name(at)?;
+        if self.is_name(next) {
+            if name.symbol != Symbol::VAR {
+                return Err(self.misplaced(next));
+            }
+            let after = self.skip_word(at, Symbol::VAR)?;
+            let (name, after) = self.name(after)?;
+            return Ok((Parameter::Variable(name), after));
+        }
+        Ok((Parameter::Value(name), next))
     }
 
     // One parameter or more, with commas between them.
@@ -174,11 +186,23 @@ impl<'a> Parser<'a> {
         Ok(())
     }
 
+    // The name of a part. No part is named `while`: this word before a parenthesis begins a loop.
+    fn part_name(&self, at: usize) -> Parsed<Name>
+        ensures read { IfOk result (λ read. IsName self.now.tokens.now at read.1 read.0) }
+        ensures no_loop { IfOk result (λ read. TokenKind.Name read.0.symbol ≢ word_while) }
+    {
+        let (name, after) = self.name(at)?;
+        if name.symbol == Symbol::WHILE {
+            return Err(SyntaxFault::at(Wrong::PartName, name.offset));
+        }
+        Ok((name, after))
+    }
+
     fn part(&self, at: usize) -> Parsed<Part>
         ensures { IfOk result (λ read. IsPart self.now.tokens.now at read.1 read.0) }
     {
         let at = self.skip_word(at, Symbol::PART)?;
-        let (name, at) = self.name(at)?;
+        let (name, at) = self.part_name(at)?;
         let at = self.skip(at, TokenKind::LeftParenthesis)?;
         let (parameters, at) = self.taken(at)?;
         let (body, after) = self.block(at, MAX_LEVELS)?;

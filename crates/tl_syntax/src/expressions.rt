@@ -1,10 +1,13 @@
 // Expressions: each function reads one rule of the grammar. `levels` says how many levels may still be opened.
 
-ghost use Rattle.std.specs.Prelude.{IfOk, IfSome};
+ghost use Rattle.std.specs.Prelude.{◌≡◌, IfOk, IfSome};
 ghost use Rattle.tl_syntax.specs.Grammar.{
   IsAdditive,
   IsMultiplicative,
   IsComparison,
+  IsMade,
+  IsShort,
+  IsRest,
   IsJoined,
   IsPlain,
   IsExpression,
@@ -18,7 +21,7 @@ ghost use Rattle.tl_syntax.specs.Grammar.{
   Atom,
 };
 
-use crate::fault::SyntaxFault;
+use crate::fault::{SyntaxFault, Wrong};
 use crate::operator::Operator;
 use crate::parsed::{Comparison, Expression, Form};
 use crate::parser::{Parsed, Parser};
@@ -31,6 +34,26 @@ enum Join {
     And,
     Compare(Comparison),
     Calculate(Operator),
+    Rest,
+}
+
+// The expression again. 273 if it is computed.
+fn again(expression: &Expression) -> Result<Expression, SyntaxFault>
+    ensures short { IfOk result (λ e. IsShort e.form) }
+    ensures same { IfOk result (λ e. e ≡ expression.now) }
+{
+    let form = match &expression.form {
+        Form::Number(number) => Form::Number(*number),
+        Form::Named(name) => Form::Named(*name),
+        Form::Field { node, field } => Form::Field {
+            node: *node,
+            field: *field,
+        },
+        Form::Children(node) => Form::Children(*node),
+        _ => return Err(SyntaxFault::at(Wrong::RestOperand, expression.offset)),
+    };
+    let offset = expression.offset;
+    Ok(Expression { offset, form })
 }
 
 impl<'a> Parser<'a> {
@@ -47,13 +70,14 @@ impl<'a> Parser<'a> {
     }
 
     // A sign of a product, and the index after it.
-    fn multiplicative(&self, at: usize) -> Option<(Operator, usize)>
+    fn multiplicative(&self, at: usize) -> Option<(Join, usize)>
         ensures { IfSome result (λ read. IsMultiplicative self.now.tokens.now at read.1 read.0) }
     {
         let next = self.behind(at);
         match self.kind(at) {
-            TokenKind::Times => Some((Operator::Multiply, next)),
-            TokenKind::Divide => Some((Operator::Divide, next)),
+            TokenKind::Times => Some((Join::Calculate(Operator::Multiply), next)),
+            TokenKind::Divide => Some((Join::Calculate(Operator::Divide), next)),
+            TokenKind::Remainder => Some((Join::Rest, next)),
             _ => None,
         }
     }
@@ -74,14 +98,14 @@ impl<'a> Parser<'a> {
         }
     }
 
-    // Joins two expressions. The joined expression begins where the first one does.
-    fn joined(
+    // The expression of an operator and its two sides, which begins where the first one does.
+    fn made(
         &self,
         left: Expression,
         right: Expression,
         join: Join,
     ) -> Result<Expression, SyntaxFault>
-        ensures { IfOk result (λ e. IsJoined join left right e) }
+        ensures { IfOk result (λ e. IsMade join left right e) }
     {
         let offset = left.offset;
         let left = Box::new(self.alloc, left)?;
@@ -91,8 +115,35 @@ impl<'a> Parser<'a> {
             Join::And => Form::And(left, right),
             Join::Compare(comparison) => Form::Compared(comparison, left, right),
             Join::Calculate(operator) => Form::Calculated(operator, left, right),
+            Join::Rest => Form::Calculated(Operator::Subtract, left, right),
         };
         Ok(Expression { offset, form })
+    }
+
+    // The rest of a division: the first side less the quotient times the second one. 273 at a side that is computed.
+    fn rest(&self, left: Expression, right: Expression) -> Result<Expression, SyntaxFault>
+        ensures { IfOk result (λ e. IsRest left right e) }
+    {
+        let divided = again(&left)?;
+        let divisor = again(&right)?;
+        let quotient = self.made(divided, divisor, Join::Calculate(Operator::Divide))?;
+        let product = self.made(quotient, right, Join::Calculate(Operator::Multiply))?;
+        self.made(left, product, Join::Rest)
+    }
+
+    // Joins two expressions. 273 at a side of `%` that is computed.
+    fn joined(
+        &self,
+        left: Expression,
+        right: Expression,
+        join: Join,
+    ) -> Result<Expression, SyntaxFault>
+        ensures { IfOk result (λ e. IsJoined join left right e) }
+    {
+        match join {
+            Join::Rest => self.rest(left, right),
+            _ => self.made(left, right, join),
+        }
     }
 
     /// A chain of `or`. Each operator opens a level, which stays open until the chain ends.
@@ -174,10 +225,10 @@ impl<'a> Parser<'a> {
     {
         let (mut left, mut at) = self.signed(at, levels)?;
         let mut spare = levels;
-        while let Some((operator, next)) = self.multiplicative(at) {
+        while let Some((join, next)) = self.multiplicative(at) {
             spare = self.open(at, spare)?;
             let (right, after) = self.signed(next, spare)?;
-            left = self.joined(left, right, Join::Calculate(operator))?;
+            left = self.joined(left, right, join)?;
             at = after;
         }
         Ok((left, at))

@@ -39,6 +39,12 @@ pub enum Wrong {
     /// 273: a `return` in a part.
     #[error("a part has no `return`: behind it goes on what used it")]
     PartReturns,
+    /// 273: a part named `while`.
+    #[error("no part is named `while`: before a parenthesis this word begins a loop")]
+    PartName,
+    /// 273: a side of `%` that is computed.
+    #[error("each side of `%` is a number, a name, a field or `kids` of a node: give this one a name before, by `let`")]
+    RestOperand,
     /// 274: more than 64 nested levels.
     #[error("more than 64 levels in one another")]
     TooDeep,
@@ -148,7 +154,9 @@ impl Wrong {
             | Wrong::Unclosed
             | Wrong::NoElse
             | Wrong::NoBound
-            | Wrong::PartReturns => 273,
+            | Wrong::PartReturns
+            | Wrong::PartName
+            | Wrong::RestOperand => 273,
             Wrong::TooDeep | Wrong::Blocks | Wrong::PartDepth => 274,
             Wrong::Unknown => 275,
             Wrong::Twice => 276,

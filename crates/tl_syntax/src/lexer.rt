@@ -100,6 +100,7 @@ impl<'a> Lexed<'a> {
         names.insert(b"atomic".as_slice())?;
         names.insert(b"while".as_slice())?;
         names.insert(b"part".as_slice())?;
+        names.insert(b"var".as_slice())?;
         Ok(Lexed {
             tokens: Vec::new(alloc),
             names,

@@ -33,7 +33,7 @@ pub struct Expression {
 #[cycle(expression)]
 #[derive(Drop)]
 pub enum Form {
-    Number(i32),
+    Number(i64),
     Named(Name),
     Field { node: Name, field: Name },
     Children(Name),
@@ -182,10 +182,11 @@ pub struct Procedure {
     pub otherwise: Vec<Statement>,
 }
 
-/// What a part is given where it is used: a node, or a number.
+/// What a part is given where it is used: a node, a value that it may change, or a number.
 #[derive(Clone, Copy)]
 pub enum Parameter {
     Node(Name),
+    Variable(Name),
     Value(Name),
 }
 
@@ -201,15 +202,8 @@ pub struct Part {
 /// A declaration at the top level of a text.
 #[derive(Drop)]
 pub enum Declaration {
-    Field {
-        name: Name,
-        number: i32,
-        offset: usize,
-    },
-    Constant {
-        name: Name,
-        value: Expression,
-    },
+    Field { name: Name, number: Expression },
+    Constant { name: Name, value: Expression },
     Procedure(Procedure),
     Part(Part),
 }

@@ -122,9 +122,9 @@ impl<'a> Parser<'a> {
         }
     }
 
-    /// A number that isn't the operand of a minus sign. 271 if it doesn't fit 32 bits, 273 if the token isn't a number.
+    /// A number that isn't the operand of a minus sign. 271 if it doesn't fit 64 bits, 273 if the token isn't a number.
     #[tactic(auto, unfolding(crate::specs::Grammar::kind_at))]
-    pub fn number(&self, at: usize) -> Parsed<i32>
+    pub fn number(&self, at: usize) -> Parsed<i64>
         ensures { IfOk result (λ read. IsNumber self.now.tokens.now at read.1 read.0) }
     {
         match self.tokens.get(at) {
@@ -133,7 +133,7 @@ impl<'a> Parser<'a> {
                     kind: TokenKind::Number(number),
                     offset,
                 },
-            ) => match i32::try_from(*number) {
+            ) => match i64::try_from(*number) {
                 Ok(number) => Ok((number, at + 1)),
                 Err(_) => Err(SyntaxFault::at(Wrong::Number, *offset)),
             },
@@ -141,14 +141,14 @@ impl<'a> Parser<'a> {
         }
     }
 
-    /// The number directly after a minus sign, negated; None if no number stands there. 271 if it doesn't fit 32 bits.
-    pub fn negative(&self, at: usize) -> Result<Option<(i32, usize)>, SyntaxFault>
+    /// The number directly after a minus sign, negated; None if no number stands there. 271 if it doesn't fit 64 bits.
+    pub fn negative(&self, at: usize) -> Result<Option<(i64, usize)>, SyntaxFault>
         ensures some { IfOk result (λ read. IfSome read (λ number. IsNegative self.now.tokens.now at number.1 number.0)) }
         ensures none { IfOk result (λ read. IfNone read (IsNoNumber self.now.tokens.now at)) }
     {
         let next = self.behind(at);
         match self.kind(at) {
-            TokenKind::Number(number) => match i32::try_from(-i64::from(number)) {
+            TokenKind::Number(number) => match i64::try_from(-i128::from(number)) {
                 Ok(number) => Ok(Some((number, next))),
                 Err(_) => Err(SyntaxFault::at(Wrong::Number, self.offset(at))),
             },

@@ -14,7 +14,6 @@ ghost use Rattle.tl_syntax.specs.Statements.{
   AreGiven,
   IsAction,
   IsQuestion,
-  IsCount,
   IsIndex,
   allows_else,
   IsBlock,
@@ -472,21 +471,6 @@ impl<'a> Parser<'a> {
         }
     }
 
-    // A number or the name of a constant.
-    fn count(&self, at: usize) -> Parsed<Expression>
-        ensures { IfOk result (λ read. IsCount self.now.tokens.now at read.1 read.0) }
-    {
-        let offset = self.offset(at);
-        if let TokenKind::Name(_) = self.kind(at) {
-            let (name, at) = self.name(at)?;
-            let form = Form::Named(name);
-            return Ok((Expression { offset, form }, at));
-        }
-        let (number, at) = self.number(at)?;
-        let form = Form::Number(number);
-        Ok((Expression { offset, form }, at))
-    }
-
     #[cycle(statements)]
     fn repetition(&self, at: usize, levels: u32) -> Parsed<StatementForm>
         ensures { IfOk result (λ read. IsForm self.now.tokens.now levels at read.1 read.0) }
@@ -503,7 +487,7 @@ impl<'a> Parser<'a> {
             return Ok((form, at));
         };
         let next = self.skip_word(next, Symbol::MOST)?;
-        let (count, next) = self.count(next)?;
+        let (count, next) = self.expression(next, levels)?;
         let (body, after) = self.block(next, levels)?;
         let form = StatementForm::Repeat {
             turns,
@@ -558,7 +542,7 @@ impl<'a> Parser<'a> {
         let (condition, at) = self.expression(at, levels)?;
         let at = self.skip_word(at, Symbol::AT)?;
         let at = self.skip_word(at, Symbol::MOST)?;
-        let (count, at) = self.count(at)?;
+        let (count, at) = self.expression(at, levels)?;
         Ok(((condition, count), at))
     }
 
@@ -623,7 +607,7 @@ impl<'a> Parser<'a> {
         let (parent, at) = self.name(at)?;
         let at = self.skip_word(at, Symbol::AT)?;
         let at = self.skip_word(at, Symbol::MOST)?;
-        let (at_most, at) = self.count(at)?;
+        let (at_most, at) = self.expression(at, levels)?;
         let (body, at) = self.block(at, levels)?;
         let form = StatementForm::ForEach {
             child,

@@ -21,6 +21,8 @@ impl Symbol {
     pub const WHILE: Symbol = Symbol(6);
 
     pub const PART: Symbol = Symbol(7);
+
+    pub const VAR: Symbol = Symbol(8);
 }
 
 /// The kind of a token. The reserved words come first.
@@ -50,7 +52,7 @@ pub enum TokenKind {
     Return,
     Try,
     Name(Symbol),
-    Number(u32),
+    Number(u64),
     LeftParenthesis,
     RightParenthesis,
     LeftBrace,
@@ -65,6 +67,7 @@ pub enum TokenKind {
     Minus,
     Times,
     Divide,
+    Remainder,
     Less,
     LessOrEqual,
     Greater,

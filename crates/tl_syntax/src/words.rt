@@ -21,8 +21,8 @@ use crate::token::TokenKind;
 /// The length of the longest name, in characters.
 pub const MAX_NAME: usize = 32;
 
-/// The greatest number that a token may have: with a minus sign directly before it, this is the least number of 32 bits.
-pub const MAX_NUMBER: u32 = 2_147_483_648;
+/// The greatest number that a token may have: with a minus sign directly before it, this is the least number of 64 bits.
+pub const MAX_NUMBER: u64 = 9_223_372_036_854_775_808;
 
 pub fn is_blank(byte: u8) -> bool
     ensures { result ≡ separates byte }
@@ -108,6 +108,7 @@ pub fn short_sign(byte: u8) -> Option<TokenKind>
         b'-' => Some(TokenKind::Minus),
         b'*' => Some(TokenKind::Times),
         b'/' => Some(TokenKind::Divide),
+        b'%' => Some(TokenKind::Remainder),
         b'<' => Some(TokenKind::Less),
         b'>' => Some(TokenKind::Greater),
         _ => None,
@@ -115,15 +116,15 @@ pub fn short_sign(byte: u8) -> Option<TokenKind>
 }
 
 // The number that digits spell, of which two may have a `_` between them.
-fn grouped_digits(word: &[u8]) -> Option<u32>
+fn grouped_digits(word: &[u8]) -> Option<u64>
     ensures grouped { IfSome result (λ n. AreGrouped word.now) }
     ensures value { IfSome result (λ n. n ≡ digits_value 10 (filter is_ascii_digit_lem word.now)) }
 {
-    let mut number: u32 = 0;
+    let mut number: u64 = 0;
     let mut follows_digit = false;
     for byte in word {
         if byte.is_ascii_digit() {
-            let digit = u32::from(*byte - b'0');
+            let digit = u64::from(*byte - b'0');
             number = number.checked_mul(10)?.checked_add(digit)?;
             follows_digit = true;
         } else if *byte == b'_' && follows_digit {
@@ -137,7 +138,7 @@ fn grouped_digits(word: &[u8]) -> Option<u32>
 
 /// The number that these characters spell: decimal, without leading zeros, at most `MAX_NUMBER`. Two digits may have a `_` between
 /// them.
-pub fn number(word: &[u8]) -> Option<u32>
+pub fn number(word: &[u8]) -> Option<u64>
     ensures { IfSome result (λ n. IsDecimal word.now n) }
 {
     let is_short = word.len() == 1 || word.first() != Some(&b'0');

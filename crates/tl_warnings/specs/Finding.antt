@@ -130,6 +130,7 @@ pub record ProcedureWarns (p : Procedure) (ws us : List Warning) : Type 0 where
 -- a name for what a part is given; a node that nothing uses is given all the same
 pub data ParameterWarns (p : Part) (ws : List Warning) : Parameter → List Warning → Type 0 where
   node_parameter : {name : Name} {vs : List Warning} → BlockWalks name.symbol.0 false p.body.items ws vs → ParameterWarns p ws (P.Node name) vs
+  variable_parameter : {name : Name} → ParameterWarns p ws (P.Variable name) ws
   value_parameter : {name : Name} {vs : List Warning} → ValueWarns name p.body.items ws vs → ParameterWarns p ws (P.Value name) vs
 
 -- its first parameters
@@ -144,7 +145,7 @@ pub record PartWarns (p : Part) (ws us : List Warning) : Type 0 where
   pub body : BlockWarns p.body.items behind_parameters us
 
 pub data DeclarationWarns (ws : List Warning) : Declaration → List Warning → Type 0 where
-  field : {name : Name} {number : ℤ} {offset : ℕ} → DeclarationWarns ws (D.Field name number offset) ws
+  field : {name : Name} {number : Expression} → DeclarationWarns ws (D.Field name number) ws
   constant : {name : Name} {value : Expression} → DeclarationWarns ws (D.Constant name value) ws
   procedure : {p : Procedure} {vs : List Warning} → ProcedureWarns p ws vs → DeclarationWarns ws (D.Procedure p) vs
   part : {p : Part} {vs : List Warning} → PartWarns p ws vs → DeclarationWarns ws (D.Part p) vs

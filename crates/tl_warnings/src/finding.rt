@@ -234,6 +234,7 @@ fn parameter(part: &Part, parameter: Parameter, found: &mut Vec<Warning>) -> Res
 {
     match parameter {
         Parameter::Node(name) => node(name, &part.body, found),
+        Parameter::Variable(_) => Ok(()),
         Parameter::Value(name) => value(name, &part.body, found),
     }
 }

@@ -1,5 +1,5 @@
 use Rattle.std.proofs.Common.{rules}
-use Rattle.tl_syntax.specs.Tokens.{left_parenthesis, right_parenthesis, left_brace, right_brace, comma, semicolon, dot, assign, plus, minus, times, divide, less_sign, greater_sign}
+use Rattle.tl_syntax.specs.Tokens.{left_parenthesis, right_parenthesis, left_brace, right_brace, comma, semicolon, dot, assign, plus, minus, times, divide, remainder, less_sign, greater_sign}
 use Rattle.tl_syntax.proofs.words.short_sign.Goals as goal
 
 pub returns-in-40 : goal.returns-in-40
@@ -37,6 +37,9 @@ returns-in-42 c = times (search rules)
 
 pub returns-in-47 : goal.returns-in-47
 returns-in-47 c = divide (search rules)
+
+pub returns-in-37 : goal.returns-in-37
+returns-in-37 c = remainder (search rules)
 
 pub returns-in-60 : goal.returns-in-60
 returns-in-60 c = less_sign (search rules)

@@ -31,7 +31,7 @@ use Rattle.tl_lowering.specs.Drafts.{no_else, one_else, IsHandled}
 use Rattle.tl_lowering.specs.Reading.{IsBlock, act, plain as by_itself, block_alone}
 use Rattle.tl_lowering.proofs.PathLemmas.{ok_more, both_ok}
 use Rattle.tl_lowering.proofs.PartLemmas.{none_part, more_part, whole_part, plain_extended, opened_extended, opens_at, tried_statement, handled_statement, chosen_statement, repeated_statement, visited_statement, forms_of, loop_at, block_at, used_action, no_use}
-use Rattle.tl_lowering.proofs.GivenLemmas.{lowered_as, lowered_in_loops, given_none, given_node, given_value, given_at, same_before, turn_as}
+use Rattle.tl_lowering.proofs.GivenLemmas.{lowered_as, lowered_in_loops, given_none, given_node, given_variable, given_value, given_at, same_before, turn_as}
 use Rattle.tl_lowering.proofs.WriteLemmas.{computed_lowered, computed_entering}
 use Rattle.tl_lowering.proofs.lowering.Lowering.+lowering.Goals as goal
 
@@ -383,6 +383,14 @@ given-given-requires-in-Value t c =
       (more.at, (c.requires.outer, (omega (arith, more.values, c.requires.values), (c.requires.nodes ∙ sym more.nodes, λ i n e. c.requires.named i n (more.named i n e))))),
     )
 
+pub given-given-requires-in-Variable : goal.given-given-requires-in-Variable
+given-given-requires-in-Variable t c =
+    let more = c.in_ok-give_variable-in-Variable.ensures in
+    let shorter = ap length c.in-Some.ensures.cases.0 in (
+      omega (arith, shorter, c.decreases),
+      (more.at, (c.requires.outer, (omega (arith, more.values, c.requires.values), (c.requires.nodes ∙ sym more.nodes, λ i n e. c.requires.named i n (more.named i n e))))),
+    )
+
 pub given-returns-in_default-clause-given : goal.given-returns-in_default-clause-given
 given-returns-in_default-clause-given t c = ok_more c.block.result _ _ c.block.ensures.named (λ l h. given_none c.in_default.ensures.cases (search rules) h)
 
@@ -394,6 +402,15 @@ pub given-returns-in_ok-named-in-Node-clause-lowered : goal.given-returns-in_ok-
 given-returns-in_ok-named-in-Node-clause-lowered t c =
     let more = c.in_ok-named-in-Node.ensures in
     ok_more c.given.result _ _ c.given.ensures.lowered (λ l h. lowered_as (view_of c.give_node.new.self.scope) (view_of c.args.self.now.scope) c.args.held more.values more.nodes more.loops h)
+
+pub given-returns-in_ok-give_variable-in-Variable-clause-given : goal.given-returns-in_ok-give_variable-in-Variable-clause-given
+given-returns-in_ok-give_variable-in-Variable-clause-given t c =
+    ok_more c.given-in-Variable.result _ _ c.given-in-Variable.ensures.given (λ l h. given_variable c.in-Some.ensures.cases.0 c.in-Variable.is c.in-Some-split_first.ensures.cases.0 c.in_ok-give_variable-in-Variable.ensures.given h)
+
+pub given-returns-in_ok-give_variable-in-Variable-clause-lowered : goal.given-returns-in_ok-give_variable-in-Variable-clause-lowered
+given-returns-in_ok-give_variable-in-Variable-clause-lowered t c =
+    let more = c.in_ok-give_variable-in-Variable.ensures in
+    ok_more c.given-in-Variable.result _ _ c.given-in-Variable.ensures.lowered (λ l h. lowered_as (view_of c.give_variable.new.self.scope) (view_of c.args.self.now.scope) c.args.held more.values more.nodes more.loops h)
 
 pub given-returns-in_ok-body-in-Value-clause-given : goal.given-returns-in_ok-body-in-Value-clause-given
 given-returns-in_ok-body-in-Value-clause-given t c =

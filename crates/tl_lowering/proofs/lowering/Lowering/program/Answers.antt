@@ -1,5 +1,5 @@
 use mir.Val.{to_z, of_z}
-use Rattle.std.proofs.Common.{◌≡◌, ◌∙◌, [], w32, arith, rules, subst, sym}
+use Rattle.std.proofs.Common.{◌≡◌, ◌∙◌, [], w64, arith, rules, subst, sym}
 use Rattle.std.specs.List.{All}
 use Rattle.std.proofs.lemmas.List.{take_all}
 use Rattle.std.proofs.lemmas.List.Elements.{All-push}
@@ -7,7 +7,7 @@ use Rattle.tl_syntax.specs.Tokens.{spellings}
 use Rattle.tl_lowering.specs.declared.program.Procedure.{Procedure}
 use Rattle.tl_lowering.specs.Fit.{IsWord}
 use Rattle.tl_lowering.specs.Names.{names_of, with_constant}
-use Rattle.tl_lowering.specs.Reading.{IsWithField, AreDeclared}
+use Rattle.tl_lowering.specs.Reading.{AreDeclared}
 use Rattle.tl_lowering.specs.Sound.{IsInOrder}
 use Rattle.tl_lowering.proofs.TextLemmas.{field_more, constant_more, procedure_more, part_more, all_so_far}
 use Rattle.tl_lowering.proofs.lowering.Lowering.program.Goals.{in-Field+in_ok-declare_field-in-Field, in-Constant+in_ok-check_new-in-Constant+in_ok-number-in-Constant, in-Procedure+in_ok-procedure-in-Procedure+in_ok-push-in-Procedure, in-Part+in_ok-declare_procedure-in-Part}
@@ -22,16 +22,14 @@ loop-index-preserved c =
     let x = c.index-declarations-index.result in
     elim c.match-declaration.branch [
       | in-Field+in_ok-declare_field-in-Field w ↦
-          let same : to_z w32 (of_z w32 w.in-Field.number) ≡ w.in-Field.number = search rules in
-          let field = subst (λ n. IsWithField i (names_of c.loop-index.self.scope) w.in-Field.name n (names_of w.declare_field.new.self.scope)) same w.in_ok-declare_field-in-Field.ensures.named in
           rw (w.self-is, w.procedures-is) (record {
-            named = field_more (names_of w.declare_field.new.self.scope) ps xs i x (omega arith) c.index-declarations-index.is so_far.named w.in-Field.is field;
+            named = field_more (names_of w.declare_field.new.self.scope) ps xs i x (omega arith) c.index-declarations-index.is so_far.named w.in-Field.is w.in_ok-declare_field-in-Field.ensures.named;
             bare = w.in_ok-declare_field-in-Field.ensures.bare;
             procedures = so_far.procedures;
           })
       | in-Constant+in_ok-check_new-in-Constant+in_ok-number-in-Constant w ↦
           let number = w.in_ok-number-in-Constant.number in
-          let same : to_z w32 (of_z w32 number) ≡ number = search rules in
+          let same : to_z w64 (of_z w64 number) ≡ number = search rules in
           let constant = subst (λ n. names_of w.declare_constant.new.self ≡ with_constant (names_of c.loop-index.self.scope) w.in-Constant.name n i) same w.declare_constant.ensures.named in
           rw (w.self-is, w.procedures-is) (record {
             named = constant_more (names_of w.declare_constant.new.self) ps xs i x (omega arith) c.index-declarations-index.is so_far.named w.in-Constant.is w.in_ok-check_new-in-Constant.ensures w.in_ok-number-in-Constant.ensures constant;

@@ -1,4 +1,4 @@
-use Rattle.std.proofs.Common.{◌≡◌, arith}
+use Rattle.std.proofs.Common.{arith}
 use Rattle.tl_lowering.specs.Paths.{nodes_of}
 use Rattle.tl_lowering.proofs.LoopLemmas.{walk_of}
 use Rattle.tl_lowering.proofs.OpeningLemmas.{visits_of}

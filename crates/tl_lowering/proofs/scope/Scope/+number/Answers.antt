@@ -1,5 +1,5 @@
 use mir.Val.{to_z, of_z}
-use Rattle.std.proofs.Common.{◌≡◌, w32, rules}
+use Rattle.std.proofs.Common.{◌≡◌, w64, rules}
 use Rattle.tl_lowering.specs.Naming.{number, field, children, negated, operation}
 use Rattle.tl_lowering.proofs.NumberLemmas.{number_at}
 use Rattle.tl_lowering.proofs.PathLemmas.{ok_more}
@@ -7,8 +7,11 @@ use Rattle.tl_lowering.proofs.scope.Scope.+number.Goals as goal
 
 pub returns-in-Number-clause-named : goal.returns-in-Number-clause-named
 returns-in-Number-clause-named t c =
-    let same : to_z w32 (of_z w32 c.in-Number.number) ≡ c.in-Number.number = search rules in
-    rw (c.in-Number.is, same) number
+    let same : to_z w64 (of_z w64 c.in-Number.number) ≡ c.in-Number.number = search rules in
+    rw c.in-Number.is (ok_more c.literal.result _ _ c.literal.ensures.named (λ e l. number (rw same at l)))
+
+pub returns-in-Number-clause-readable : goal.returns-in-Number-clause-readable
+returns-in-Number-clause-readable t c = c.literal.ensures.readable _ _
 
 pub returns-in-Named-clause-named : goal.returns-in-Named-clause-named
 returns-in-Named-clause-named t c = rw c.in-Named.is c.named.ensures.named

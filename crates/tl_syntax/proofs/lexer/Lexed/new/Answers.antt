@@ -30,7 +30,10 @@ returns-clause-names c =
     let now8 : c.as_slice-8.result.now ≡ codes "part" = search rules in
     let with8 : spellings c.insert-8.new.self.keys ≡ codes "at" ∷ codes "each" ∷ codes "most" ∷ codes "of" ∷ codes "to" ∷ codes "atomic" ∷ codes "while" ∷ codes "part" ∷ [] =
     inserted_last c.insert-7.new.self.keys c.insert-8.new.self.keys c.as_slice-8.result (codes "part") (codes "at" ∷ codes "each" ∷ codes "most" ∷ codes "of" ∷ codes "to" ∷ codes "atomic" ∷ codes "while" ∷ []) with7 now8 refl c.in_ok-insert-8.ensures.keys in
-    with8
+    let now9 : c.as_slice-9.result.now ≡ codes "var" = search rules in
+    let with9 : spellings c.insert-9.new.self.keys ≡ codes "at" ∷ codes "each" ∷ codes "most" ∷ codes "of" ∷ codes "to" ∷ codes "atomic" ∷ codes "while" ∷ codes "part" ∷ codes "var" ∷ [] =
+    inserted_last c.insert-8.new.self.keys c.insert-9.new.self.keys c.as_slice-9.result (codes "var") (codes "at" ∷ codes "each" ∷ codes "most" ∷ codes "of" ∷ codes "to" ∷ codes "atomic" ∷ codes "while" ∷ codes "part" ∷ []) with8 now9 refl c.in_ok-insert-9.ensures.keys in
+    with9
 
 pub returns-clause-distinct : goal.returns-clause-distinct
-returns-clause-distinct c = distinct_spellings c.insert-8.new.self.keys c.in_ok-insert-8.ensures.unique
+returns-clause-distinct c = distinct_spellings c.insert-9.new.self.keys c.in_ok-insert-9.ensures.unique

@@ -1,4 +1,4 @@
-use Rattle.std.proofs.Common.{rules, arith, ◌≡◌, refl, w32}
+use Rattle.std.proofs.Common.{rules, arith, ◌≡◌, refl, w64}
 use Rattle.std.proofs.lemmas.Result.{IfOk-weaker}
 use mir.Val.{to_z, of_z}
 use Rattle.tl_syntax.specs.Grammar.{IsExpression, Negation, Unary, Relation, Atom, one, more, chain, not, compared, negative, negated, grouped, plain}
@@ -38,13 +38,13 @@ pub negation-returns : goal.negation-returns
 negation-returns t c =
     rw c.in_ok-levels.ensures (not {levels = c.in_ok-levels.levels} {k = c.in_ok-operand.after} {a = c.in_ok-new.field-0} c.in-Some.ensures (rw c.in_ok-new.ensures.ok c.in_ok-operand.ensures) refl c.offset-offset.ensures)
 
-pub product-loop-operator-init : goal.product-loop-operator-init
-product-loop-operator-init t c = record { room = omega arith; spelled = one c.in_ok-left.ensures }
+pub product-loop-join-init : goal.product-loop-join-init
+product-loop-join-init t c = record { room = omega arith; spelled = one c.in_ok-left.ensures }
 
-pub product-loop-operator-preserved : goal.product-loop-operator-preserved
-product-loop-operator-preserved t c = record {
+pub product-loop-join-preserved : goal.product-loop-join-preserved
+product-loop-join-preserved t c = record {
   room = omega arith;
-  spelled = more (rw c.in_ok-spare.ensures at c.loop-operator.invariant.spelled) c.in-Some.ensures c.in_ok-right.ensures c.in_ok-left-2.ensures;
+  spelled = more (rw c.in_ok-spare.ensures at c.loop-join.invariant.spelled) c.in-Some.ensures c.in_ok-right.ensures c.in_ok-left-2.ensures;
 }
 
 pub relation-returns-in_default : goal.relation-returns-in_default
@@ -62,7 +62,7 @@ signed-returns-in_default t c =
 pub signed-returns-in-Some-2 : goal.signed-returns-in-Some-2
 signed-returns-in-Some-2 t c =
     let n = c.in-Some-2.number in
-    let same : to_z w32 (of_z w32 n) ≡ n = search rules in
+    let same : to_z w64 (of_z w64 n) ≡ n = search rules in
     rw same (negative c.in-Some.ensures (rw c.in-Some-2.is at c.in_ok-number.ensures.some) refl c.offset-offset.ensures)
 
 pub signed-returns : goal.signed-returns
@@ -86,7 +86,7 @@ pub expression-returns : goal.expression-returns
 expression-returns t c = chain c.loop-next.invariant.spelled
 
 pub product-returns : goal.product-returns
-product-returns t c = chain c.loop-operator.invariant.spelled
+product-returns t c = chain c.loop-join.invariant.spelled
 
 pub sum-returns : goal.sum-returns
 sum-returns t c = chain c.loop-operator.invariant.spelled

@@ -41,12 +41,12 @@ invariant-expression-loop-next l =
 abbrev pub decreases-expression-loop-next : goal.decreases-expression-loop-next
 decreases-expression-loop-next l = l.spare
 
-abbrev pub invariant-product-loop-operator : goal.invariant-product-loop-operator
-invariant-product-loop-operator l =
+abbrev pub invariant-product-loop-join : goal.invariant-product-loop-join
+invariant-product-loop-join l =
     record { room : l.spare ≤ l.fn.levels; spelled : IsChain l.self.tokens.now l.fn.levels l.spare Term l.fn.at l.at l.left }
 
-abbrev pub decreases-product-loop-operator : goal.decreases-product-loop-operator
-decreases-product-loop-operator l = l.spare
+abbrev pub decreases-product-loop-join : goal.decreases-product-loop-join
+decreases-product-loop-join l = l.spare
 
 abbrev pub invariant-sum-loop-operator : goal.invariant-sum-loop-operator
 invariant-sum-loop-operator l =

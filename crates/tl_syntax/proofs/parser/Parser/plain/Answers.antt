@@ -1,4 +1,4 @@
-use Rattle.std.proofs.Common.{rules, ◌≡◌, w32}
+use Rattle.std.proofs.Common.{rules, ◌≡◌, w64}
 use mir.Val.{to_z, of_z}
 use Rattle.tl_syntax.specs.Grammar.{number, kids}
 use Rattle.tl_syntax.proofs.parser.Parser.plain.Goals as goal
@@ -6,7 +6,7 @@ use Rattle.tl_syntax.proofs.parser.Parser.plain.Goals as goal
 pub returns-in_ok-number-in-Number : goal.returns-in_ok-number-in-Number
 returns-in_ok-number-in-Number c =
     let n = c.in_ok-number-in-Number.number in
-    let same : to_z w32 (of_z w32 n) ≡ n = search rules in
+    let same : to_z w64 (of_z w64 n) ≡ n = search rules in
     rw same (number c.in_ok-number-in-Number.ensures)
 
 pub returns-in_ok-at-in-Kids-3 : goal.returns-in_ok-at-in-Kids-3
