@@ -2,8 +2,8 @@
 
 use crate::help::{
     ALONE_HELP, ASM_HELP, AUDIT_HELP, CHECK_HELP, COMPILE_HELP, DIS_HELP, DRIVE_HELP, EXPLAIN_HELP,
-    EXPORT_HELP, HELP, MIGRATE_HELP, PROCS_HELP, RUN_HELP, SERVE_HELP, SNAPSHOT_HELP, STATUS_HELP,
-    STOP_HELP, VERIFY_HELP, WIDEN_HELP,
+    EXPORT_HELP, HELP, MIGRATE_HELP, PROCS_HELP, REGISTER_HELP, REPLACE_HELP, RUN_HELP, SERVE_HELP,
+    SNAPSHOT_HELP, STATUS_HELP, STOP_HELP, VERIFY_HELP, WIDEN_HELP,
 };
 use crate::rows::{Reading, Row};
 use clap::{Arg, ArgAction, Command, value_parser};
@@ -165,6 +165,8 @@ enum Name {
     Serve,
     Status,
     Snapshot,
+    Register,
+    Replace,
     Stop,
     Audit,
     Export,
@@ -179,13 +181,15 @@ enum Name {
     Explain,
 }
 
-const NAMES: [Name; 18] = [
+const NAMES: [Name; 20] = [
     Name::Alone,
     Name::Drive,
     Name::Run,
     Name::Serve,
     Name::Status,
     Name::Snapshot,
+    Name::Register,
+    Name::Replace,
     Name::Stop,
     Name::Audit,
     Name::Export,
@@ -315,10 +319,9 @@ fn connection_rows() -> [Row; 5] {
         Row::option(
             "at-once",
             "N",
-            "How many connections may be open at once, 1 to 1024",
+            "How many connections may be open at once, 1 to 1024; if not given, 256, or 8 with --connections",
         )
-        .as_a(Reading::Places)
-        .or("8"),
+        .as_a(Reading::Places),
         Row::option(
             "control",
             "P",
@@ -342,7 +345,7 @@ fn connection_rows() -> [Row; 5] {
 }
 
 // How a server goes on when an epoch is full, and what it writes.
-fn epoch_rows() -> [Row; 5] {
+fn epoch_rows() -> [Row; 6] {
     [
         Row::option(
             "seal",
@@ -361,6 +364,10 @@ fn epoch_rows() -> [Row; 5] {
             "The folder that each generation's trails are written to, as 0.json, 1.json and so on",
         )
         .excluding("trail"),
+        Row::flag(
+            "frozen",
+            "Refuses registering, replacing, appending and sealing on the port; the control still does that",
+        ),
         trail_with("The file that the trail is written to, of a server whose clients seal"),
         save(),
     ]
@@ -394,18 +401,21 @@ fn control_command<'a>(
     )
 }
 
-fn snapshot_command<'a>(alloc: Global) -> Result<Command<'a>, AllocError> {
-    command_of(
-        alloc,
-        "snapshot",
-        "Has a server of this machine copy its store into a file",
-        SNAPSHOT_HELP,
-        &[
-            port("The server's control port"),
-            socket("The file of the server's control socket"),
-            Row::file("NAME", "The copy's name, as in monday.db"),
-        ],
-    )
+// The same, with what is asked for.
+fn control_command_for<'a>(
+    alloc: Global,
+    name: &'static str,
+    about: &'static str,
+    help: &'static str,
+    asked: Row,
+) -> Result<Command<'a>, AllocError> {
+    let command = control_command(alloc, name, about, help)?;
+    with_rows(alloc, command, &[asked])
+}
+
+// A text that a server takes the procedures of.
+fn text() -> Row {
+    Row::file("TEXT", "The file of a text of the procedure language")
 }
 
 fn audit_command<'a>(alloc: Global) -> Result<Command<'a>, AllocError> {
@@ -416,18 +426,14 @@ fn audit_command<'a>(alloc: Global) -> Result<Command<'a>, AllocError> {
         AUDIT_HELP,
         &[
             nodes(),
-            Row::option(
+            Row::flag(
                 "explain",
-                "",
                 "Says on standard error what stands where something is wrong, and what should",
-            )
-            .as_a(Reading::Flag),
-            Row::option(
+            ),
+            Row::flag(
                 "same-procedures",
-                "",
                 "Refuses a file of which a procedure has another code than in the file before",
-            )
-            .as_a(Reading::Flag),
+            ),
             Row::file(
                 "TRAIL",
                 "The file of the trail, as JSON; several that follow each other; a folder of such files; or the file of a store",
@@ -444,12 +450,10 @@ fn check_command<'a>(alloc: Global) -> Result<Command<'a>, AllocError> {
         "Says what a procedure does at most, or shows where its text is wrong",
         CHECK_HELP,
         &[
-            Row::option(
+            Row::flag(
                 "watch",
-                "",
                 "Checks the file again whenever it changes, until a signal ends the program",
-            )
-            .as_a(Reading::Flag),
+            ),
             Row::file(
                 "FILE",
                 "The file of a text of the procedure language, whose name ends with `.tdb`, of an assembler text, or of a container",
@@ -524,13 +528,34 @@ fn command_named<'a>(alloc: Global, name: Name) -> Result<Command<'a>, AllocErro
         Name::Drive => drive_command(alloc),
         Name::Run => run_command(alloc),
         Name::Serve => serve_command(alloc),
-        Name::Status => control_command(
+        Name::Status => control_command_for(
             alloc,
             "status",
             "Prints what a server of this machine that lasts says of itself",
             STATUS_HELP,
+            Row::flag("wait", "Waits until a server answers there"),
         ),
-        Name::Snapshot => snapshot_command(alloc),
+        Name::Snapshot => control_command_for(
+            alloc,
+            "snapshot",
+            "Has a server of this machine copy its store into a file",
+            SNAPSHOT_HELP,
+            Row::file("NAME", "The copy's name, as in monday.db"),
+        ),
+        Name::Register => control_command_for(
+            alloc,
+            "register",
+            "Has a server of this machine register the procedures of a text",
+            REGISTER_HELP,
+            text(),
+        ),
+        Name::Replace => control_command_for(
+            alloc,
+            "replace",
+            "Has a server of this machine put the procedures of a text in the place of those with their names",
+            REPLACE_HELP,
+            text(),
+        ),
         Name::Stop => control_command(
             alloc,
             "stop",
@@ -545,10 +570,7 @@ fn command_named<'a>(alloc: Global, name: Name) -> Result<Command<'a>, AllocErro
             EXPORT_HELP,
             [
                 Row::file("STORE", "The file of the store"),
-                Row::file(
-                    "FOLDER",
-                    "The folder that the trails are written to, as 0.json, 1.json and so on",
-                ),
+                Row::file("FOLDER", "The folder for the trails: 0.json, 1.json, .."),
             ],
         ),
         Name::Check => check_command(alloc),

@@ -6,7 +6,7 @@ use crate::arguments::command;
 use clap::error::ErrorKind;
 use clap::{ArgMatches, Error};
 use std::alloc::{AllocError, Global};
-use tl_server::Address;
+use tl_server::{Address, LASTING_PLACES, MAX_CONNECTIONS};
 use tl_tree::USUAL_NODES;
 
 /// The files, if named, that are written as well as what is printed: the trail, and the final tree.
@@ -81,13 +81,12 @@ pub struct LastingOptions<'a> {
     pub generation: u16,
     /// The folder of the generations' trails.
     pub trails: Option<&'a str>,
+    /// Whether only its control registers and replaces procedures, appends nodes, and seals.
+    pub is_frozen: bool,
 }
 
 /// After how many epochs a new generation begins, if the command line doesn't say.
 const GENERATION: u16 = 16;
-
-/// How many connections may be open at once, if the command line doesn't say.
-const AT_ONCE: u16 = 8;
 
 /// The permissions of a socket's file, if the command line doesn't say: who started the server may connect, and nobody else.
 const MODE: u32 = 0o600;
@@ -135,6 +134,15 @@ pub enum FileCommand<'a> {
     },
 }
 
+/// What an operator has a server do with the procedures of a text.
+#[derive(Clone, Copy, Debug)]
+pub enum Ruling {
+    /// Register them.
+    Register,
+    /// Put them in the place of those with their names.
+    Replace,
+}
+
 /// What the program is asked to do.
 #[derive(Drop)]
 pub enum Request<'a> {
@@ -174,13 +182,20 @@ pub enum Request<'a> {
         control: Address<'a>,
         name: &'a str,
     },
+    /// Ask the server with this control port or socket to take the procedures of a text.
+    Rule {
+        control: Address<'a>,
+        ruling: Ruling,
+        text: &'a str,
+    },
     /// Ask the server with this control port or socket to stop.
     Stop {
         control: Address<'a>,
     },
-    /// Ask the server with this control port or socket how far it is.
+    /// Ask the server with this control port or socket how far it is, or wait until one is there that says so.
     Status {
         control: Address<'a>,
+        waits: bool,
     },
 }
 
@@ -211,13 +226,14 @@ fn who_seals<'a>(words: &ArgMatches<'a>) -> Result<Sealing<'a>, &'static str> {
     }
     match connections {
         Some(_) if is_by_hand && has_lasting_options(words) => Err(
-            "--generation, --trails, --store and --proc are for a server that seals itself: --seal itself",
+            "--generation, --trails, --store, --proc and --frozen are for a server that seals itself: --seal itself",
         ),
         Some(connections) if is_by_hand => Ok(Sealing::ByHand { connections }),
         connections => Ok(Sealing::Itself(LastingOptions {
             connections,
             generation: words.get_one("generation").unwrap_or(GENERATION),
             trails: words.get_str("trails"),
+            is_frozen: words.get_flag("frozen"),
         })),
     }
 }
@@ -227,6 +243,7 @@ fn has_lasting_options(words: &ArgMatches<'_>) -> bool {
         || words.contains_id("trails")
         || words.contains_id("store")
         || words.contains_id("proc")
+        || words.get_flag("frozen")
 }
 
 // A port or a socket's file, whichever is named.
@@ -313,14 +330,23 @@ fn call_command<'a>(alloc: Global, name: &str, words: &ArgMatches<'a>) -> Option
     }
 }
 
+// How many connections may be open at once, if the command line doesn't say.
+fn usual_places(sealing: Sealing<'_>) -> u16 {
+    match sealing {
+        Sealing::ByHand { .. } => MAX_CONNECTIONS,
+        Sealing::Itself(_) => LASTING_PLACES,
+    }
+}
+
 fn serve_options<'a>(words: &ArgMatches<'a>) -> Option<ServeOptions<'a>> {
+    let sealing = who_seals(words).ok()?;
     Some(ServeOptions {
         address: address_of(words, "port", "socket")?,
-        at_once: words.get_one("at-once").unwrap_or(AT_ONCE),
+        at_once: words.get_one("at-once").unwrap_or(usual_places(sealing)),
         control: address_of(words, "control", "control-socket"),
         mode: mode_of(words).ok()?.unwrap_or(MODE),
         idle: words.get_one("idle"),
-        sealing: who_seals(words).ok()?,
+        sealing,
     })
 }
 
@@ -409,23 +435,36 @@ fn asked_of<'a>(alloc: Global, matches: &ArgMatches<'a>) -> Option<Asked<'a>> {
     })
 }
 
+// What a server is asked for at its control.
+fn control_request<'a>(name: &str, words: &ArgMatches<'a>) -> Option<Request<'a>> {
+    let control = address_of(words, "port", "socket")?;
+    match name {
+        "register" => Some(Request::Rule {
+            control,
+            ruling: Ruling::Register,
+            text: words.get_str("TEXT")?,
+        }),
+        "replace" => Some(Request::Rule {
+            control,
+            ruling: Ruling::Replace,
+            text: words.get_str("TEXT")?,
+        }),
+        "snapshot" => Some(Request::Copy {
+            control,
+            name: words.get_str("NAME")?,
+        }),
+        "status" => Some(Request::Status {
+            control,
+            waits: words.get_flag("wait"),
+        }),
+        _ => Some(Request::Stop { control }),
+    }
+}
+
 // What a command other than `explain` asks for. `None` if memory is refused.
 fn request_of<'a>(alloc: Global, name: &str, words: &ArgMatches<'a>) -> Option<Request<'a>> {
-    if name == "stop" {
-        return Some(Request::Stop {
-            control: address_of(words, "port", "socket")?,
-        });
-    }
-    if name == "snapshot" {
-        return Some(Request::Copy {
-            control: address_of(words, "port", "socket")?,
-            name: words.get_str("NAME")?,
-        });
-    }
-    if name == "status" {
-        return Some(Request::Status {
-            control: address_of(words, "port", "socket")?,
-        });
+    if let "register" | "replace" | "snapshot" | "status" | "stop" = name {
+        return control_request(name, words);
     }
     if name == "audit" {
         return Some(Request::Audit {

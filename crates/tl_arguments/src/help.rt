@@ -110,6 +110,8 @@ With --connections C it ends by itself after so many connections, and clients se
 is refused until one does. Then this prints {\"order\":[..]}, the order in which the calls would do the same alone, or
 {\"orders\":[..]}, the order in each epoch, and the tree. With --trail what the calls did and the records in the end are
 written to a file, which treedb audit checks. --seal itself and --seal by-hand choose between the two.
+With --frozen nobody registers or replaces procedures, appends nodes or seals through the port, which gets 1101; the control does that
+still, as by treedb register and treedb replace. A connection that a browser opens is ended at its first line, and nothing of it is done.
 With --idle S a connection ends that sends nothing for S seconds, or takes no answer for so long.
 Every user of the machine reaches a port. With --socket PATH in the place of --port, and --control-socket PATH in the place of
 --control, the server listens on Unix sockets, and whoever may write their files reaches it: who started it alone, or as --mode says,
@@ -125,12 +127,29 @@ answered before. Meanwhile no call is answered. The name is 1 to 64 ASCII letter
 replaced. With --socket PATH it asks the server with --control-socket PATH.
 Exit status: 0 copied, 1 refused, 2 a mistake on the command line, 3 nobody answers there, or the copy can't be written, 4 memory.";
 
+pub const REGISTER_HELP: &str = "\
+Example: treedb register stock.tdb --port 7879
+asks the server that was started with --control 7879 and without --connections to register all procedures of the text, and prints
+{\"registered\":[{\"bounds\":{..},\"name\":\"shift\"},..]}. It is for operators: a server that is --frozen does this at its control alone. A text with a
+fault is shown as by check, and not sent. With --socket PATH it asks the server with --control-socket PATH.
+Exit status: 0 done, 1 refused, 2 a mistake on the command line, 3 nobody answers there, or a file that can't be read, 4 memory.";
+
+pub const REPLACE_HELP: &str = "\
+Example: treedb replace stock.tdb --port 7879
+asks the server that was started with --control 7879 and without --connections to put all procedures of the text in the place of those with
+their names, all or none, and prints {\"replaced\":[{\"bounds\":{..},\"name\":\"shift\"},..]}. It is for operators: a server that is --frozen does
+this at its control alone. A text with a fault is shown as by check, and not sent. With --socket PATH it asks the server with
+--control-socket PATH.
+Exit status: 0 done, 1 refused, 2 a mistake on the command line, 3 nobody answers there, or a file that can't be read, 4 memory.";
+
 pub const STATUS_HELP: &str = "\
 Example: treedb status --port 7879
 asks the server that was started with --control 7879 and without --connections how far it is, and prints
-{\"epoch\":E,\"generation\":G,\"calls\":N,\"connections\":C,\"nodes\":M,\"procedures\":P}: the epoch that calls belong to now, as their
-answers name it; the number of the generation, from 0; the calls that were answered with a receipt since the start; the connections
-that are open; the tree's nodes; and the procedures. With --socket PATH it asks the server with --control-socket PATH.
+{\"epoch\":E,\"generation\":G,\"calls\":N,\"connections\":C,\"nodes\":M,\"procedures\":P,\"refusals\":R,\"places\":L,\"browsers\":B}: the epoch that
+calls belong to now, as their answers name it; the number of the generation, from 0; the calls that were answered with a receipt since
+the start; the connections that are open; the tree's nodes; the procedures; the requests and calls that were refused since the start; how
+many connections may be open at once; and the connections that a browser opened, which were ended. With --socket PATH it asks the server with --control-socket PATH.
+With --wait it asks until a server answers there: a script that has started one goes on once it is ready.
 Exit status: 0 done, 2 a mistake on the command line, 3 nobody answers there, or a server that doesn't say, 4 memory.";
 
 pub const STOP_HELP: &str = "\

@@ -7,6 +7,6 @@ mod help;
 mod rows;
 
 pub use command_line::{
-    Asked, CallCommand, FileCommand, LastingOptions, Outputs, Request, ScriptFiles, Sealing,
-    ServeOptions, parse, status,
+    Asked, CallCommand, FileCommand, LastingOptions, Outputs, Request, Ruling, ScriptFiles,
+    Sealing, ServeOptions, parse, status,
 };

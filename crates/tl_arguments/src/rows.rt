@@ -61,6 +61,14 @@ impl Row {
         }
     }
 
+    /// An option without a value.
+    pub(crate) fn flag(name: &'static str, help: &'static str) -> Row {
+        Row {
+            reading: Reading::Flag,
+            ..Row::option(name, "", help)
+        }
+    }
+
     /// A file that has to be named.
     pub(crate) fn file(name: &'static str, help: &'static str) -> Row {
         Row {

@@ -8,6 +8,8 @@ use crate::{
 };
 use std::alloc::Global;
 use std::rt::Files;
+use std::sync::Wait;
+use tl_file_journal::{Comparer, Difference};
 use tl_generations::{GrowthFault, Legacy, Succession};
 use tl_procedures::{Procedures, ReplacingFault};
 use tl_server::Keeper;
@@ -24,6 +26,12 @@ pub enum Trails {
 
 /// What a server's engines did, once all are closed.
 pub trait Finish {
+    /// What engines do is compared from now on with what a store has of it.
+    fn compare_by(&mut self, comparer: Option<Comparer>);
+
+    /// Compares what the last engine did with what the store has of it, and lets go of who compares.
+    fn compare_last(&mut self, alloc: Global);
+
     /// Takes and writes what the last engine did, if that isn't done yet. Answers how many engines were closed. 831 if an engine
     /// didn't close, or didn't begin with what the one before left.
     fn finish(&mut self, alloc: Global) -> Result<u64, CliFault>;
@@ -55,6 +63,16 @@ pub struct Archive<R> {
     broken: Option<CliFault>,
     // Why a file wasn't written, of the first one that wasn't.
     unwritten: Option<CliFault>,
+    // Who compares what the engines did with what a store has.
+    comparer: Option<Comparer>,
+}
+
+// Says to people which epoch of a store isn't what was run, or can't be compared.
+fn show_difference(rt: &impl Eprint, difference: Difference) {
+    let Difference { epoch, fault } = difference;
+    let _shown = eprintln!(rt;
+        "treedb: epoch {epoch} of the store isn't what was run, or can't be compared: {fault}"
+    );
 }
 
 impl<R: Files + Eprint> Archive<R> {
@@ -69,6 +87,7 @@ impl<R: Files + Eprint> Archive<R> {
             is_taken: false,
             broken: None,
             unwritten: None,
+            comparer: None,
         }
     }
 
@@ -146,7 +165,27 @@ impl<R: Files + Eprint> Archive<R> {
     }
 }
 
-impl<R: Files + Eprint> Finish for Archive<R> {
+impl<R: Files + Eprint + Wait> Archive<R> {
+    // Compares what the last engine did with what the store has of it, if that isn't done yet.
+    fn compare_closed(&mut self, alloc: Global) {
+        if let (Some(comparer), Some(generation)) = (&mut self.comparer, &self.closed) {
+            if let Err(difference) = comparer.compare(&self.rt, alloc, generation.chain()) {
+                show_difference(&self.rt, difference);
+            }
+        }
+    }
+}
+
+impl<R: Files + Eprint + Wait> Finish for Archive<R> {
+    fn compare_by(&mut self, comparer: Option<Comparer>) {
+        self.comparer = comparer;
+    }
+
+    fn compare_last(&mut self, alloc: Global) {
+        self.compare_closed(alloc);
+        self.comparer = None;
+    }
+
     fn finish(&mut self, alloc: Global) -> Result<u64, CliFault> {
         if let Some(fault) = self.broken {
             return Err(fault);
@@ -173,7 +212,7 @@ impl<R: Files + Eprint> Finish for Archive<R> {
     }
 }
 
-impl<R: Files + Eprint> Keeper for Archive<R> {
+impl<R: Files + Eprint + Wait> Keeper for Archive<R> {
     ghost use Rattle.std.specs.Prelude.{IsTrue};
 
     ghost has_closed = { λ a. IsTrue a.is_taken };
@@ -219,6 +258,7 @@ impl<R: Files + Eprint> Keeper for Archive<R> {
     }
 
     fn keep(&mut self, alloc: Global) {
+        self.compare_closed(alloc);
         self.keep_closed(alloc);
     }
 }

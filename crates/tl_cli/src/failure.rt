@@ -34,6 +34,10 @@ pub enum Failure<'a> {
         control: Address<'a>,
         reason: io::Error,
     },
+    /// A server's refusal: its line, with its LF.
+    Unheeded {
+        answer: String,
+    },
 }
 
 /// A fault whose numbers stand for a failure on standard output.
@@ -46,6 +50,8 @@ pub enum Fault {
     Record(ExportFault),
     /// A server makes no copy of its store.
     Copy(CopyRefusal),
+    /// A server refuses: the numbers are in its answer.
+    Answered,
 }
 
 // The fault that stands for one of an export.
@@ -69,6 +75,7 @@ impl Failure<'_> {
             Failure::Uncopied(refusal) => Fault::Copy(*refusal),
             Failure::Unreadable { .. } => Fault::Command(CliFault::Unreadable),
             Failure::Unwritable { .. } => Fault::Command(CliFault::Unwritable),
+            Failure::Unheeded { .. } => Fault::Answered,
             Failure::NotOpened { .. } | Failure::NoServer { .. } => {
                 Fault::Command(CliFault::NoPort)
             }
@@ -81,7 +88,7 @@ impl Failure<'_> {
             Fault::Command(fault) => fault.status(),
             Fault::Text(fault) => fault.status(),
             Fault::Store(refusal) => refusal.status(),
-            Fault::Record(_) => 1,
+            Fault::Record(_) | Fault::Answered => 1,
             Fault::Copy(refusal) => refusal.status(),
         }
     }
@@ -133,6 +140,12 @@ impl fmt::Display for Failure<'_> {
             Failure::Uncopied(refusal) => write!(f, "{refusal}"),
             Failure::Unreadable { path, reason } => write!(f, "{path} can't be read: {reason}"),
             Failure::Unwritable { path, reason } => write!(f, "{path} can't be written: {reason}"),
+            Failure::Unheeded { .. } => {
+                write!(
+                    f,
+                    "the server refuses that; treedb explain says what its number means"
+                )
+            }
             Failure::NotOpened { address } => match address {
                 Address::Port(port) => write!(f, "the port {port} can't be opened"),
                 Address::Socket(path) => write!(f, "the socket {path} can't be opened"),

@@ -33,12 +33,16 @@ fn print_numbers<R: Print>(rt: &R, numbers: &[u64]) -> io::Result<()> {
 /// Prints a failure: its numbers on standard output, `{"error":[..]}`, and its message for people on standard error.
 pub fn print_failure<R: Print + Eprint>(rt: &R, failure: &Failure<'_>) -> io::Result<()> {
     let _shown = eprintln!(rt; "treedb: {failure}");
+    if let Failure::Unheeded { answer } = failure {
+        return rt.print(answer.as_str());
+    }
     match failure.fault() {
         Fault::Command(fault) => print_numbers(rt, fault.numbers().as_slice()),
         Fault::Text(fault) => print_numbers(rt, fault.numbers().as_slice()),
         Fault::Store(refusal) => print_numbers(rt, refusal.numbers().as_slice()),
         Fault::Record(fault) => print_numbers(rt, fault.numbers().as_slice()),
         Fault::Copy(refusal) => print_numbers(rt, refusal.numbers().as_slice()),
+        Fault::Answered => Ok(()),
     }
 }
 

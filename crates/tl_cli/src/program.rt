@@ -500,8 +500,13 @@ where
             }
             Request::Export { store, folder } => self.export(store, folder, epochs),
             Request::Copy { control, name } => self.copy(*control, name),
+            Request::Rule {
+                control,
+                ruling,
+                text,
+            } => self.rule(*control, *ruling, text),
             Request::Stop { control } => self.stop(*control),
-            Request::Status { control } => self.status(*control),
+            Request::Status { control, waits } => self.status(*control, *waits),
         }
     }
 

@@ -1,6 +1,7 @@
 // What the numbers of faults mean. Written by `tools/faults` from `docs/use/faults.md`.
 
 mod calls;
+mod roles;
 mod runs;
 mod stores;
 mod texts;
@@ -32,6 +33,7 @@ pub fn meaning_of(number: u16) -> Option<Meaning> {
         791..=990 => runs::from_801_to_990(number),
         991..=1014 => stores::from_1001_to_1014(number),
         1015..=1090 => stores::from_1015_to_1090(number),
+        1091..=1101 => roles::from_1101_to_1101(number),
         _ => None,
     }
 }

@@ -3,11 +3,12 @@
 ghost use Rattle.std.specs.Prelude.{◌≡◌};
 ghost use Rattle.tl_file_journal.specs.Copying.{refusal_of};
 
+use crate::comparing::{Comparer, Shared};
 use sqlite_std_file::File;
 use sqlite_store::FileStore;
 use sqlite_trees::store::Store;
 use std::alloc::Global;
-use std::sync::Wait;
+use std::sync::{Arc, Wait};
 use tl_file_snapshot::{SnapshotFault, write_snapshot};
 use tl_generations::Legacy;
 use tl_journal::{JournalParts, LedgerJournal};
@@ -20,7 +21,9 @@ use tl_workers::Engine;
 /// The journal of a store in a file. As a type of its own it hides the types of the file: what serves is proved without them.
 #[derive(Drop)]
 pub struct FileJournal {
-    pub(crate) ledger: LedgerJournal<FileStore<File>>,
+    pub(crate) shared: Arc<Shared>,
+    // How many epochs the store had when it was opened.
+    pub(crate) epochs: u64,
     // Where the files are, the path of the store's, and the folder of the copies.
     pub(crate) files: HostRuntime,
     pub(crate) path: String,
@@ -42,11 +45,19 @@ fn refusal_of(fault: SnapshotFault) -> CopyRefusal
 
 /// A journal that can be ended.
 pub trait End {
-    /// Stores what is left, and takes it into the file. 1014 if the store doesn't have then what the last engine left, where that has closed.
+    /// Who compares what is stored with what is run from now on. `None` if nothing is stored.
+    fn comparer(&self) -> Option<Comparer>;
+
+    /// Stores what is left, and takes it into the file, once who compares it is gone. 1014 if the store wasn't what was run, or doesn't have then what the
+    /// last engine left, where that has closed.
     fn end(self, rt: &impl Wait, alloc: Global, left: Option<&Legacy>) -> Result<(), StoreFault>;
 }
 
 impl End for NoJournal {
+    fn comparer(&self) -> Option<Comparer> {
+        None
+    }
+
     fn end(
         self,
         _rt: &impl Wait,
@@ -67,11 +78,11 @@ impl Journal for FileJournal {
     }
 
     fn gather(&self, rt: &impl Wait, alloc: Global, engine: &Engine, base: u32) {
-        self.ledger.gather(rt, alloc, engine, base);
+        self.shared.ledger.gather(rt, alloc, engine, base);
     }
 
     fn close(&self, rt: &impl Wait, alloc: Global, engine: &Engine, base: u32) {
-        self.ledger.close(rt, alloc, engine, base);
+        self.shared.ledger.close(rt, alloc, engine, base);
     }
 
     fn claim(
@@ -82,30 +93,30 @@ impl Journal for FileJournal {
         session: u32,
         key: &str,
     ) -> Claim {
-        self.ledger.claim(rt, alloc, engine, session, key)
+        self.shared.ledger.claim(rt, alloc, engine, session, key)
     }
 
     fn release(&self, rt: &impl Wait, alloc: Global, engine: &Engine, session: u32) {
-        self.ledger.release(rt, alloc, engine, session);
+        self.shared.ledger.release(rt, alloc, engine, session);
     }
 
     fn grow(&self, rt: &impl Wait, alloc: Global, parents: &[i64], epoch: u32) {
-        self.ledger.grow(rt, alloc, parents, epoch);
+        self.shared.ledger.grow(rt, alloc, parents, epoch);
     }
 
     fn replace(&self, rt: &impl Wait, alloc: Global, others: &Procedures) {
-        self.ledger.replace(rt, alloc, others);
+        self.shared.ledger.replace(rt, alloc, others);
     }
 
     fn settle(&self, rt: &impl Wait, alloc: Global) -> Result<(), Unstored> {
-        self.ledger.settle(rt, alloc)
+        self.shared.ledger.settle(rt, alloc)
     }
 
     fn copy(&self, rt: &impl Wait, _alloc: Global, name: &str) -> Result<(), CopyRefusal> {
         let Some(folder) = &self.copies else {
             return Err(CopyRefusal::NoCopies);
         };
-        let Some(ledger) = self.ledger.borrow(rt) else {
+        let Some(ledger) = self.shared.ledger.borrow(rt) else {
             return Err(CopyRefusal::Broken);
         };
         let mut ledger = ledger;
@@ -116,14 +127,28 @@ impl Journal for FileJournal {
             folder.as_str(),
             name,
         );
-        self.ledger.give_back(rt, ledger);
+        self.shared.ledger.give_back(rt, ledger);
         written.map_err(refusal_of)
     }
 }
 
 impl End for FileJournal {
+    fn comparer(&self) -> Option<Comparer> {
+        match Arc::try_clone(&self.shared) {
+            Ok(shared) => Some(Comparer::new(shared, self.epochs)),
+            Err(_) => None,
+        }
+    }
+
     fn end(self, rt: &impl Wait, alloc: Global, left: Option<&Legacy>) -> Result<(), StoreFault> {
-        end_ledger(rt, alloc, self.ledger, left)
+        let Some(shared) = Arc::into_inner(self.shared) else {
+            return Err(StoreFault::Other);
+        };
+        let Shared { ledger, difference } = shared;
+        match difference.into_inner() {
+            Some(fault) => Err(fault),
+            None => end_ledger(rt, alloc, ledger, left),
+        }
     }
 }
 

@@ -14,6 +14,7 @@ ghost use Rattle.tl_store_commands.specs.Beginning.{IsFirst, BeginsWith, Resumes
 ghost use Rattle.tl_store_laws.specs.Growing.{IsLedgerOf};
 ghost use Rattle.tl_store_file.specs.declared.opening.Found.TheVariants.{Store as There};
 
+use crate::comparing::Shared;
 use crate::journal::FileJournal;
 use crate::refusal::StoreRefusal;
 use sqlite_disk::Disk;
@@ -21,6 +22,7 @@ use sqlite_std_file::File;
 use sqlite_store::FileStore;
 use sqlite_trees::store::Store;
 use std::alloc::Global;
+use std::sync::{Arc, Mutex};
 use tl_generations::Succession;
 use tl_journal::LedgerJournal;
 use tl_procedures::Procedures;
@@ -77,24 +79,32 @@ fn on_file(
     files: HostRuntime,
     path: String,
     copies: Option<String>,
-) -> Opening<FileJournal> {
+    epochs: u64,
+) -> Result<Opening<FileJournal>, StoreRefusal>
+    ensures { (result ≢ Err NoTree) × (result ≢ Err HasTree) }
+{
     let Opening {
         engine,
         journal,
         succession,
         known,
     } = opening;
-    Opening {
+    let shared = Shared {
+        ledger: journal,
+        difference: Mutex::new(None),
+    };
+    Ok(Opening {
         engine,
         journal: FileJournal {
-            ledger: journal,
+            shared: Arc::new(files.alloc(), shared)?,
+            epochs,
             files,
             path,
             copies,
         },
         succession,
         known,
-    }
+    })
 }
 
 // A store that is made of a tree where files hold one without rows.
@@ -220,8 +230,10 @@ pub fn open_stored(
         Some(folder) => Some(String::from_str(rt.alloc(), folder)?),
         None => None,
     };
+    let epochs = begun.ledger.marks.seals;
+    let opening = opening_of(rt.alloc(), begun)?;
     Ok(Stored {
-        opening: on_file(opening_of(rt.alloc(), begun)?, *rt, path, copies),
+        opening: on_file(opening, *rt, path, copies, epochs)?,
         retaken,
     })
 }

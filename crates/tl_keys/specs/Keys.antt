@@ -1,5 +1,5 @@
 -- What is remembered of calls by their keys.
-use Rattle.std.specs.Prelude.{◌≡◌, ◌≢◌, ◌≤◌, ◌⊎◌, ℕ, List, Option, Some, None}
+use Rattle.std.specs.Prelude.{◌≡◌, ◌≢◌, ◌≤◌, ◌+◌, ◌⊎◌, ℕ, List, Option, Some, None, IsSome}
 use Rattle.std.specs.Option.{option_or}
 use Rattle.std.specs.HashMap.{get_by_text, hash_map_len}
 use Rattle.tl_keys.specs.declared.index.TheConstants.{CAPACITY}
@@ -34,3 +34,10 @@ Ages old new key = (CAPACITY ≤ hash_map_len old.recent) × (recent_at new key 
 pub record Remembers (old new : KeyIndex) (key : List ℕ) (kept : KeptValue) : Type 0 where
   pub here : recent_at new key ≡ Some kept
   pub others : (other : List ℕ) → other ≢ key → Stays old new other ⊎ Ages old new other
+  -- the recent part has one key more at most, and no other where it was full
+  pub grows : hash_map_len new.recent ≤ hash_map_len old.recent + 1
+  pub fresh : CAPACITY ≤ hash_map_len old.recent → hash_map_len new.recent ≤ 1
+
+-- Something is remembered under the key, and will be after so many calls more.
+abbrev pub Lasts : KeyIndex → List ℕ → ℕ → Type 0
+Lasts i key n = (IsSome (recent_at i key) × (n ≤ CAPACITY)) ⊎ (IsSome (earlier_at i key) × (n + hash_map_len i.recent ≤ CAPACITY))

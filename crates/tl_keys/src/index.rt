@@ -1,6 +1,6 @@
 // What came of calls, by their keys.
 
-ghost use Rattle.std.specs.Prelude.{◌≡◌, ◌≢◌, ◌≤◌, ◌<◌, ◌⊎◌, ℕ, List, Some, None, option_map, string_bytes, OnOk};
+ghost use Rattle.std.specs.Prelude.{◌≡◌, ◌≢◌, ◌≤◌, ◌<◌, ◌+◌, ◌⊎◌, ℕ, List, Some, None, option_map, string_bytes, OnOk};
 ghost use Rattle.std.specs.HashMap.{hash_map_len};
 ghost use Rattle.tl_keys.specs.declared.index.TheConstants.{CAPACITY};
 
@@ -49,6 +49,8 @@ impl KeyIndex {
     // Lets the recent part become the earlier one, if it is full.
     fn make_room(&mut self, alloc: Global)
         ensures room { hash_map_len self.new.recent < CAPACITY }
+        ensures size { hash_map_len self.new.recent ≤ hash_map_len self.old.recent }
+        ensures fresh { CAPACITY ≤ hash_map_len self.old.recent → hash_map_len self.new.recent ≡ 0 }
         ensures each { (key : List ℕ) → Stays self.old self.new key ⊎ Ages self.old self.new key }
     {
         if self.recent.len() < CAPACITY {
@@ -62,6 +64,7 @@ impl KeyIndex {
         requires { hash_map_len self.old.recent < CAPACITY }
         ensures here { OnOk result (recent_at self.new (string_bytes key) ≡ Some kept) }
         ensures others { OnOk result ((other : List ℕ) → other ≢ string_bytes key → Stays self.old self.new other) }
+        ensures size { OnOk result (hash_map_len self.new.recent ≤ hash_map_len self.old.recent + 1) }
     {
         match self.recent.insert(key, kept) {
             Ok(_) => Ok(()),

@@ -3,6 +3,7 @@
 
 mod index;
 mod kept;
+pub mod laws;
 
 pub use index::{CAPACITY, KeyIndex};
 pub use kept::Kept;

@@ -10,11 +10,9 @@ use Rattle.tl_workers.specs.declared.session.Did.{Did}
 use Rattle.tl_workers.specs.declared.session.Did.TheVariants.{Asked, Got}
 use Rattle.tl_workers.specs.Kept.{asking, call_of, AnswersEach, asked_of, gots_of}
 use Rattle.tl_workers.specs.Refusals.{AreCallRefusals}
-use Rattle.tl_server.specs.declared.fault.LineFault.{LineFault}
 use Rattle.tl_server.specs.Answers.{line_text, error_text, batch_text}
-use Rattle.tl_server.specs.Faults.{numbers_of}
-use Rattle.tl_server.specs.Requests.{LineValue, Registers, RegistersText, Replaces, Calls, CallsOnce, Batches, Grows, Seals, Closes, IsRequest, IsLineFault}
-use Rattle.tl_server.specs.Served.{Ways, Keying, KnowsNoKeys, KeepsNoKeys, KeepsKeys, CallOutcome, IsCallAnswer, IsKeptAnswer, IsOnceAnswer, AnswersRequest, AnswersLine, IsAnswer}
+use Rattle.tl_server.specs.Requests.{LineValue, Registers, RegistersText, Replaces, Calls, CallsOnce, Batches, Grows, Seals, Closes, is_barred}
+use Rattle.tl_server.specs.Served.{Ways, Keying, KnowsNoKeys, KeepsNoKeys, KeepsKeys, CallOutcome, IsCallAnswer, IsKeptAnswer, IsOnceAnswer, AnswersRequest, AnswersUnless, AnswersLine, IsAnswer}
 use Rattle.tl_server.specs.Runs.{AllGot, GainsWholeCalls}
 use Rattle.tl_server.proofs.Goings.{Laws}
 
@@ -115,29 +113,28 @@ request_whole ways may_seal (Grows parents) gained out h = nothing gained h.0
 request_whole ways may_seal Seals gained out h = nothing gained h.0
 request_whole ways may_seal Closes gained out h = absurd h
 
-line_whole : (ways : Ways) (may_seal : ℕ → Type 0) (line : List ℕ) (gained : List Did) (out : List ℕ) → AnswersLine ways may_seal line gained out → AllGot gained
-line_whole ways may_seal line gained out h = ⊎_elim
-    (λ (refused : (gained ≡ []) × (out ≡ line_text (error_text (990 ∷ [])))). nothing gained refused.0)
-    (λ (rest : ((f : LineFault) × IsLineFault line f × (gained ≡ []) × (out ≡ line_text (error_text (numbers_of f)))) ⊎ ((r : LineValue) × IsRequest line r × AnswersRequest ways may_seal r gained out)).
-    ⊎_elim
-    (λ (fault : (f : LineFault) × IsLineFault line f × (gained ≡ []) × (out ≡ line_text (error_text (numbers_of f)))). nothing gained fault.2)
-    (λ (answered : (r : LineValue) × IsRequest line r × AnswersRequest ways may_seal r gained out). request_whole ways may_seal answered.0 gained out answered.2)
-    rest)
-    h
+unless_whole : (barred : Bool) (ways : Ways) (may_seal : ℕ → Type 0) (r : LineValue) (gained : List Did) (out : List ℕ) → AnswersUnless barred ways may_seal r gained out → AllGot gained
+unless_whole true ways may_seal r gained out h = nothing gained h.0
+unless_whole false ways may_seal r gained out h = request_whole ways may_seal r gained out h
 
-answer_whole : (ways : Ways) (may_seal : ℕ → Type 0) (line : List ℕ) (closes : Bool) (gained : List Did) (out : List ℕ) → IsAnswer ways may_seal line closes gained out → AllGot gained
-answer_whole ways may_seal line true gained out h = nothing gained h.1
-answer_whole ways may_seal line false gained out h = line_whole ways may_seal line gained out h
+line_whole : (ways : Ways) (may_seal : ℕ → Type 0) (line : List ℕ) (gained : List Did) (out : List ℕ) → AnswersLine ways may_seal line gained out → AllGot gained
+line_whole ways may_seal line gained out (inl refused) = nothing gained refused.0
+line_whole ways may_seal line gained out (inr (inl fault)) = nothing gained fault.2
+line_whole ways may_seal line gained out (inr (inr answered)) = unless_whole (is_barred ways.frozen answered.0) ways may_seal answered.0 gained out answered.2
+
+answer_whole : (ways : Ways) (may_seal : ℕ → Type 0) (begins : Bool) (line : List ℕ) (closes : Bool) (gained : List Did) (out : List ℕ) → IsAnswer ways may_seal begins line closes gained out → AllGot gained
+answer_whole ways may_seal begins line true gained out h = nothing gained h.0
+answer_whole ways may_seal begins line false gained out h = line_whole ways may_seal line gained out h.1
 
 -- ---- lines
 
 pub gains_none : {V : Type 0} {Gains : V → V → List Did → Type 0} {May : V → ℕ → Type 0} → Laws Gains May → (a : V) → GainsWholeCalls Gains a a
 gains_none x a = ([], x.none a, got_nothing)
 
-pub answered_more : {V : Type 0} {Gains : V → V → List Did → Type 0} {May : V → ℕ → Type 0} (ways : Ways) → Laws Gains May → (first old new : V) (line : List ℕ) (closes : Bool) (gained : List Did) (out : List ℕ) → GainsWholeCalls Gains first old → Gains old new gained
-    → IsAnswer ways (May old) line closes gained out → GainsWholeCalls Gains first new
-answered_more {V} {Gains} {May} ways x first old new line closes gained out before more answer = (
+pub answered_more : {V : Type 0} {Gains : V → V → List Did → Type 0} {May : V → ℕ → Type 0} (ways : Ways) → Laws Gains May → (first old new : V) (begins : Bool) (line : List ℕ) (closes : Bool) (gained : List Did) (out : List ℕ) → GainsWholeCalls Gains first old → Gains old new gained
+    → IsAnswer ways (May old) begins line closes gained out → GainsWholeCalls Gains first new
+answered_more {V} {Gains} {May} ways x first old new begins line closes gained out before more answer = (
   before.0 ++ gained,
   x.more first old new before.0 gained before.1 more,
-  got_both before.0 gained before.2 (answer_whole ways (May old) line closes gained out answer),
+  got_both before.0 gained before.2 (answer_whole ways (May old) begins line closes gained out answer),
 )

@@ -10,8 +10,10 @@ use Rattle.tl_server.specs.declared.request.TheConstants.{MAX_LINE}
 use Rattle.tl_server.specs.declared.reader.Came.TheVariants.{Whole, Rest, End}
 use Rattle.tl_server.specs.declared.fault.LineFault.{LineFault}
 use Rattle.tl_server.specs.declared.fault.LineFault.TheVariants as fault
-use Rattle.tl_server.specs.Requests.{LineValue, Registers, RegistersText, Replaces, Calls, CallsOnce, Batches, Grows, Seals, Closes, IsRequest, IsLineFault}
-use Rattle.tl_server.specs.Served.{Ways, SealOutcome, Answered, AnswersRequest, AnswersLine, ClosesLine, IsAnswer, AnsweredAll}
+use Rattle.tl_server.specs.Requests.{LineValue, Registers, RegistersText, Replaces, Calls, CallsOnce, Batches, Grows, Seals, Closes, is_barred, IsRequest, IsLineFault}
+use Rattle.tl_server.specs.Browsers.{is_of_browser, is_first, AreOfClients}
+use Rattle.tl_server.specs.Served.{Ways, SealOutcome, Answered, AnswersRequest, AnswersUnless, AnswersLine, EndsLine, IsAnswer, AnsweredAll}
+use Rattle.tl_server.proofs.Browsers.{browser_kept, first_is, clients_more}
 use Rattle.tl_server.specs.Lines.{with_lfs, HasNoLf, NoLfs, lines_of, onto_first}
 use Rattle.tl_server.specs.Devices.{Adds, AddsPart}
 use Rattle.tl_server.specs.Sending.{Sending, Sent, SentIf, Writes}
@@ -88,10 +90,20 @@ held_answer ways may_seal l g o (inl refused) = inl refused
 held_answer ways may_seal l g o (inr (inl f)) = inr (inl (f.0, held_fault l f.0 f.1, f.2, f.3))
 held_answer ways may_seal l g o (inr (inr r)) = inr (inr (r.0, held_request l r.0 r.1, r.2))
 
+held_end : (first : Bool) (l : List ℕ) (o : List ℕ) → EndsLine first (held_of l) o → EndsLine first l o
+held_end first l o (inl c) = inl (held_request l Closes c.0, c.1)
+held_end first l o (inr b) = inr (sym (browser_kept first l) ∙ b.0, b.1)
+
 -- the answer to the kept part of a line is the line's answer
-pub line_answer : (ways : Ways) (may_seal : ℕ → Type 0) (l kept : List ℕ) (closes : Bool) (g : List Did) (o : List ℕ) → kept ≡ held_of l → IsAnswer ways may_seal kept closes g o → IsAnswer ways may_seal l closes g o
-line_answer ways may_seal l kept false g o is a = let P : List ℕ → Type 0 = λ xs. AnswersLine ways may_seal xs g o in held_answer ways may_seal l g o (subst P is a)
-line_answer ways may_seal l kept true g o is a = let P : List ℕ → Type 0 = λ xs. ClosesLine xs g o in let c = subst P is a in (held_request l Closes c.0, c.1, c.2)
+pub line_answer : (ways : Ways) (may_seal : ℕ → Type 0) (first : Bool) (l kept : List ℕ) (closes : Bool) (g : List Did) (o : List ℕ) → kept ≡ held_of l → IsAnswer ways may_seal first kept closes g o → IsAnswer ways may_seal first l closes g o
+line_answer ways may_seal first l kept false g o is a =
+    let P : List ℕ → Type 0 = λ xs. IsAnswer ways may_seal first xs false g o in
+    let c = subst P is a in
+    (sym (browser_kept first l) ∙ c.0, held_answer ways may_seal l g o c.1)
+line_answer ways may_seal first l kept true g o is a =
+    let P : List ℕ → Type 0 = λ xs. IsAnswer ways may_seal first xs true g o in
+    let c = subst P is a in
+    (c.0, held_end first l o c.1)
 
 -- ---- answers
 
@@ -132,22 +144,29 @@ may_line ways may may' (Grows parents) g o h a = a
 may_line ways may may' Seals g o h a = (a.0, (a.1.0, may_seal_too ways.seals may may' a.1.0 h a.1.1, a.1.2))
 may_line ways may may' Closes g o h a = a
 
-may_answer : (ways : Ways) (may may' : ℕ → Type 0) (l : List ℕ) (closes : Bool) (g : List Did) (o : List ℕ) → ((n : ℕ) → may n → may' n) → IsAnswer ways may l closes g o → IsAnswer ways may' l closes g o
-may_answer ways may may' l true g o h a = a
-may_answer ways may may' l false g o h (inl refused) = inl refused
-may_answer ways may may' l false g o h (inr (inl fault)) = inr (inl fault)
-may_answer ways may may' l false g o h (inr (inr a)) = inr (inr (a.0, a.1, may_line ways may may' a.0 g o h a.2))
+may_unless : (barred : Bool) (ways : Ways) (may may' : ℕ → Type 0) (r : LineValue) (g : List Did) (o : List ℕ) → ((n : ℕ) → may n → may' n) → AnswersUnless barred ways may r g o → AnswersUnless barred ways may' r g o
+may_unless true ways may may' r g o h a = a
+may_unless false ways may may' r g o h a = may_line ways may may' r g o h a
+
+may_answers : (ways : Ways) (may may' : ℕ → Type 0) (l : List ℕ) (g : List Did) (o : List ℕ) → ((n : ℕ) → may n → may' n) → AnswersLine ways may l g o → AnswersLine ways may' l g o
+may_answers ways may may' l g o h (inl refused) = inl refused
+may_answers ways may may' l g o h (inr (inl fault)) = inr (inl fault)
+may_answers ways may may' l g o h (inr (inr a)) = inr (inr (a.0, a.1, may_unless (is_barred ways.frozen a.0) ways may may' a.0 g o h a.2))
+
+may_answer : (ways : Ways) (may may' : ℕ → Type 0) (first : Bool) (l : List ℕ) (closes : Bool) (g : List Did) (o : List ℕ) → ((n : ℕ) → may n → may' n) → IsAnswer ways may first l closes g o → IsAnswer ways may' first l closes g o
+may_answer ways may may' first l true g o h a = a
+may_answer ways may may' first l false g o h a = (a.0, may_answers ways may may' l g o h a.1)
 
 abbrev pub moment : {V : Type 0} → Option (List ℕ) → V → Option (List ℕ) → Moment V
 moment input visitor output = record { input = input; visitor = visitor; output = output }
 
 -- the answer to one line
-pub record AnswersOne {V : Type 0} (Gains : V → V → List Did → Type 0) (ways : Ways) (May : V → ℕ → Type 0) (old new : V) (s s' : Sending) (l : List ℕ) (closes : Bool) : Type 0 where
+pub record AnswersOne {V : Type 0} (Gains : V → V → List Did → Type 0) (ways : Ways) (May : V → ℕ → Type 0) (old new : V) (s s' : Sending) (first : Bool) (l : List ℕ) (closes : Bool) : Type 0 where
   pub gained : List Did
   pub out : List ℕ
   pub gains : Gains old new gained
   pub writes : Writes s s' out
-  pub answer : IsAnswer ways (May old) l closes gained out
+  pub answer : IsAnswer ways (May old) first l closes gained out
 
 -- if nothing is kept and no write has failed, the sink has received everything
 all_sent : (failed : Bool) (base : Option (List ℕ)) (total : List ℕ) (output : Option (List ℕ)) (kept : List ℕ) → failed ≡ false → kept ≡ [] → SentIf failed base total output kept → Adds base total output
@@ -176,6 +195,7 @@ pub record GoesOn {V : Type 0} (Gains : V → V → List Did → Type 0) (ways :
   pub count : n ≡ length ls
   pub gains : Gains m.visitor visitor gained
   pub sent : Sent m.output out s
+  pub clients : AreOfClients ls
   pub answered : Answered ways (May m.visitor) ls gained out
 
 -- nothing has been read
@@ -194,6 +214,7 @@ begins x m left bytes s is empty output_is none fresh =
       count = refl;
       gains = x.none m.visitor;
       sent = subst Q (sym fresh) ([], sym none, subst P (sym output_is) (Adds-nil m.output));
+      clients = tt;
       answered = (refl, refl);
     }
 
@@ -212,13 +233,15 @@ settles m input visitor s s' left n bytes g w =
       count = g.count;
       gains = g.gains;
       sent = subst P (append-nil g.out) (w.sends m.output g.out g.sent);
+      clients = g.clients;
       answered = g.answered;
     }
 
 -- a line was read completely and answered
 pub goes_on : {V : Type 0} {Gains : V → V → List Did → Type 0} {ways : Ways} {May : V → ℕ → Type 0} → Laws Gains May → (m : Moment V) (input input' : Option (List ℕ)) (old new : V) (s s' : Sending) (left : List ℕ) (r : ReaderValue) (n : ℕ) (bytes : List ℕ) → (g : GoesOn Gains ways May m input old s left n bytes)
-    → Comes (left ++ g.unread) Whole r input' → AnswersOne Gains ways May old new s s' r.held false → (more : ℕ) → more ≡ n + 1 → GoesOn Gains ways May m input' new s' r.left more bytes
+    → Comes (left ++ g.unread) Whole r input' → AnswersOne Gains ways May old new s s' (n == 0) r.held false → (more : ℕ) → more ≡ n + 1 → GoesOn Gains ways May m input' new s' r.left more bytes
 goes_on {V} {Gains} {ways} {May} x m input input' old new s s' left r n bytes g w one more is =
+    let a = may_answer ways (May old) (May m.visitor) (n == 0) w.0 false one.gained one.out (λ k. x.on m.visitor old g.gained k g.gains) (line_answer ways (May old) (n == 0) w.0 r.held false one.gained one.out w.3 one.answer) in
     record {
       ls = g.ls ++ w.0 ∷ [];
       unread = w.1;
@@ -230,8 +253,8 @@ goes_on {V} {Gains} {ways} {May} x m input input' old new s s' left r n bytes g 
       count = omega (arith, g.count, length-append g.ls (w.0 ∷ []), is);
       gains = x.more m.visitor old new g.gained one.gained g.gains one.gains;
       sent = one.writes.sends m.output g.out g.sent;
-      answered = Answered-snoc ways (May m.visitor) g.ls w.0 g.gained g.out one.gained one.out g.answered
-          (may_answer ways (May old) (May m.visitor) w.0 false one.gained one.out (λ k. x.on m.visitor old g.gained k g.gains) (line_answer ways (May old) w.0 r.held false one.gained one.out w.3 one.answer));
+      clients = clients_more n g.ls w.0 g.count g.clients a.0;
+      answered = Answered-snoc ways (May m.visitor) g.ls w.0 g.gained g.out one.gained one.out g.answered a.1;
     }
 
 -- the lines of the input, where this one is next
@@ -247,30 +270,34 @@ lines_rest m input input' old s left r n bytes g w =
 
 -- the last line was answered
 finishes : (ways : Ways) (may : ℕ → Type 0) (ls : List (List ℕ)) (l : List ℕ) (after : List (List ℕ)) (lines : List (List ℕ)) (closes : Bool) (n more : ℕ) (gained g : List Did) (out o : List ℕ) → lines ≡ ls ++ l ∷ after → n ≡ length ls → more ≡ n + 1
-    → Answered ways may ls gained out → IsAnswer ways may l closes g o → (closes ≡ false → after ≡ []) → AnsweredAll ways may lines more (gained ++ g) (out ++ o)
-finishes ways may ls l after lines false n more gained g out o is count counts answered a last =
+    → AreOfClients ls → Answered ways may ls gained out → IsAnswer ways may (n == 0) l closes g o → (closes ≡ false → after ≡ []) → AnsweredAll ways may lines more (gained ++ g) (out ++ o)
+finishes ways may ls l after lines false n more gained g out o is count counts clients answered a last =
     let all : lines ≡ ls ++ l ∷ [] = is ∙ ap (λ xs. ls ++ l ∷ xs) (last refl) in
-    let P : List (List ℕ) → Type 0 = λ xs. Answered ways may xs (gained ++ g) (out ++ o) in
-    inl (omega (arith, count, counts, ap length all, length-append ls (l ∷ [])), subst P (sym all) (Answered-snoc ways may ls l gained out g o answered a))
-finishes ways may ls l after lines true n more gained g out o is count counts answered a last =
+    let P : List (List ℕ) → Type 0 = λ xs. AreOfClients xs × Answered ways may xs (gained ++ g) (out ++ o) in
+    let both = subst P (sym all) (clients_more n ls l count clients a.0, Answered-snoc ways may ls l gained out g o answered a.1) in
+    inl (omega (arith, count, counts, ap length all, length-append ls (l ∷ [])), both.0, both.1)
+finishes ways may ls l after lines true n more gained g out o is count counts clients answered a last =
     let P : List Did → Type 0 = λ xs. Answered ways may ls xs out in
+    let Q : Bool → Type 0 = λ first. EndsLine first l o in
     inr (record {
       before = ls;
       last = l;
       after = after;
       answers = out;
+      ending = o;
       lines_are = is;
       count = counts ∙ ap (λ k. k + 1) count;
-      answered = subst P (sym (ap (λ xs. gained ++ xs) a.1 ∙ append-nil gained)) answered;
-      closes = a.0;
-      out_is = ap (λ xs. out ++ xs) a.2;
+      clients = clients;
+      answered = subst P (sym (ap (λ xs. gained ++ xs) a.0 ∙ append-nil gained)) answered;
+      ends = subst Q (first_is n ls count) a.1;
+      out_is = refl;
     })
 
-pub one_of : {V : Type 0} (Gains : V → V → List Did → Type 0) (ways : Ways) (May : V → ℕ → Type 0) (old new : V) (s s' : Sending) (line held : List ℕ) (closes closes' : Bool)
-    → ((gained : List Did) × (out : List ℕ) × Gains old new gained × Writes s s' out × IsAnswer ways (May old) line closes gained out) → line ≡ held → closes ≡ closes' → AnswersOne Gains ways May old new s s' held closes'
-one_of Gains ways May old new s s' line held closes closes' a is same =
-    let P : List ℕ → Type 0 = λ xs. IsAnswer ways (May old) xs closes a.0 a.1 in
-    let Q : Bool → Type 0 = λ b. IsAnswer ways (May old) held b a.0 a.1 in
+pub one_of : {V : Type 0} (Gains : V → V → List Did → Type 0) (ways : Ways) (May : V → ℕ → Type 0) (old new : V) (s s' : Sending) (first : Bool) (line held : List ℕ) (closes closes' : Bool)
+    → ((gained : List Did) × (out : List ℕ) × Gains old new gained × Writes s s' out × IsAnswer ways (May old) first line closes gained out) → line ≡ held → closes ≡ closes' → AnswersOne Gains ways May old new s s' first held closes'
+one_of Gains ways May old new s s' first line held closes closes' a is same =
+    let P : List ℕ → Type 0 = λ xs. IsAnswer ways (May old) first xs closes a.0 a.1 in
+    let Q : Bool → Type 0 = λ b. IsAnswer ways (May old) first held b a.0 a.1 in
     record { gained = a.0; out = a.1; gains = a.2; writes = a.3; answer = subst Q same (subst P is a.4) }
 
 -- ---- how it ends
@@ -284,13 +311,13 @@ stops_before m input visitor s left n bytes g fails = (
   lines_of (left ++ g.unread),
   n,
   ap lines_of g.whole ∙ lines_of-whole g.ls (left ++ g.unread) g.each,
-  (g.gained, g.out, g.gains, part_sent s.failed m.output g.out s.output s.kept fails g.sent, inl (g.count, g.answered)),
+  (g.gained, g.out, g.gains, part_sent s.failed m.output g.out s.output s.kept fails g.sent, inl (g.count, g.clients, g.answered)),
 )
 
 -- a read failed
 pub breaks_off : {V : Type 0} {Gains : V → V → List Did → Type 0} {ways : Ways} {May : V → ℕ → Type 0} (m : Moment V) (input input' : Option (List ℕ)) (visitor : V) (s : Sending) (left : List ℕ) (n : ℕ) (bytes : List ℕ) → (g : GoesOn Gains ways May m input visitor s left n bytes) → Breaks (left ++ g.unread) input'
     → s.failed ≡ false → s.kept ≡ []
-    → (ls : List (List ℕ)) × (rest : List ℕ) × (left' : List ℕ) × (input' ≡ Some left') × (bytes ≡ (with_lfs ls ++ rest) ++ left') × NoLfs ls × HasNoLf rest
+    → (ls : List (List ℕ)) × (rest : List ℕ) × (left' : List ℕ) × (input' ≡ Some left') × (bytes ≡ (with_lfs ls ++ rest) ++ left') × NoLfs ls × AreOfClients ls × HasNoLf rest
     × ((gained : List Did) × (out : List ℕ) × Gains m.visitor visitor gained × Adds m.output out s.output × Answered ways (May m.visitor) ls gained out)
 breaks_off m input input' visitor s left n bytes g b fresh none = (
   g.ls,
@@ -299,6 +326,7 @@ breaks_off m input input' visitor s left n bytes g b fresh none = (
   b.3,
   g.whole ∙ ap (λ ys. with_lfs g.ls ++ ys) b.4 ∙ sym (append_assoc (with_lfs g.ls) b.0 b.1),
   g.each,
+  g.clients,
   b.2,
   (g.gained, g.out, g.gains, all_sent s.failed m.output g.out s.output s.kept fresh none g.sent, g.answered),
 )
@@ -309,8 +337,9 @@ pub ends : {V : Type 0} {Gains : V → V → List Did → Type 0} {ways : Ways} 
     → (gained : List Did) × (out : List ℕ) × Gains m.visitor visitor gained × Adds m.output out s.output × AnsweredAll ways (May m.visitor) (lines_of bytes) n gained out
 ends {V} {Gains} {ways} {May} m input input' visitor s left r n bytes g w fresh none =
     let lines : lines_of bytes ≡ g.ls = ap lines_of g.whole ∙ lines_of-whole g.ls (left ++ g.unread) g.each ∙ ap (λ ys. g.ls ++ lines_of ys) w ∙ append-nil g.ls in
-    let P : List (List ℕ) → Type 0 = λ xs. Answered ways (May m.visitor) xs g.gained g.out in
-    (g.gained, g.out, g.gains, all_sent s.failed m.output g.out s.output s.kept fresh none g.sent, inl (g.count ∙ ap length (sym lines), subst P (sym lines) g.answered))
+    let P : List (List ℕ) → Type 0 = λ xs. AreOfClients xs × Answered ways (May m.visitor) xs g.gained g.out in
+    let both = subst P (sym lines) (g.clients, g.answered) in
+    (g.gained, g.out, g.gains, all_sent s.failed m.output g.out s.output s.kept fresh none g.sent, inl (g.count ∙ ap length (sym lines), both.0, both.1))
 
 -- the last line was answered, and the gathered output was handed over
 pub record Finishes {V : Type 0} (Gains : V → V → List Did → Type 0) (ways : Ways) (May : V → ℕ → Type 0) (m : Moment V) (visitor : V) (s : Sending) (more : ℕ) (bytes : List ℕ) : Type 0 where
@@ -321,7 +350,7 @@ pub record Finishes {V : Type 0} (Gains : V → V → List Did → Type 0) (ways
   pub answered : AnsweredAll ways (May m.visitor) (lines_of bytes) more gained out
 
 finished : {V : Type 0} {Gains : V → V → List Did → Type 0} {ways : Ways} {May : V → ℕ → Type 0} → Laws Gains May → (m : Moment V) (input : Option (List ℕ)) (old new : V) (s s' s'' : Sending) (left : List ℕ) (n : ℕ) (bytes held l : List ℕ) (after : List (List ℕ)) (closes : Bool) → (g : GoesOn Gains ways May m input old s left n bytes)
-    → lines_of bytes ≡ g.ls ++ l ∷ after → held ≡ held_of l → AnswersOne Gains ways May old new s s' held closes → (closes ≡ false → after ≡ []) → Writes s' s'' [] → (more : ℕ) → more ≡ n + 1 → Finishes Gains ways May m new s'' more bytes
+    → lines_of bytes ≡ g.ls ++ l ∷ after → held ≡ held_of l → AnswersOne Gains ways May old new s s' (n == 0) held closes → (closes ≡ false → after ≡ []) → Writes s' s'' [] → (more : ℕ) → more ≡ n + 1 → Finishes Gains ways May m new s'' more bytes
 finished {V} {Gains} {ways} {May} x m input old new s s' s'' left n bytes held l after closes g lines is one last w more counts =
     let P : List ℕ → Type 0 = λ xs. Sent m.output xs s'' in
     record {
@@ -329,19 +358,19 @@ finished {V} {Gains} {ways} {May} x m input old new s s' s'' left n bytes held l
       out = g.out ++ one.out;
       gains = x.more m.visitor old new g.gained one.gained g.gains one.gains;
       sent = subst P (append-nil (g.out ++ one.out)) (w.sends m.output (g.out ++ one.out) (one.writes.sends m.output g.out g.sent));
-      answered = finishes ways (May m.visitor) g.ls l after (lines_of bytes) closes n more g.gained one.gained g.out one.out lines g.count counts g.answered (may_answer ways (May old) (May m.visitor) l closes one.gained one.out (λ k. x.on m.visitor old g.gained k g.gains) (line_answer ways (May old) l held closes one.gained one.out is one.answer)) last;
+      answered = finishes ways (May m.visitor) g.ls l after (lines_of bytes) closes n more g.gained one.gained g.out one.out lines g.count counts g.clients g.answered (may_answer ways (May old) (May m.visitor) (n == 0) l closes one.gained one.out (λ k. x.on m.visitor old g.gained k g.gains) (line_answer ways (May old) (n == 0) l held closes one.gained one.out is one.answer)) last;
     }
 
 -- a line closed the connection
 pub closes_at : {V : Type 0} {Gains : V → V → List Did → Type 0} {ways : Ways} {May : V → ℕ → Type 0} → Laws Gains May → (m : Moment V) (input input' : Option (List ℕ)) (old new : V) (s s' s'' : Sending) (left : List ℕ) (r : ReaderValue) (n : ℕ) (bytes : List ℕ) → (g : GoesOn Gains ways May m input old s left n bytes)
-    → Comes (left ++ g.unread) Whole r input' → AnswersOne Gains ways May old new s s' r.held true → Writes s' s'' [] → (more : ℕ) → more ≡ n + 1 → Finishes Gains ways May m new s'' more bytes
+    → Comes (left ++ g.unread) Whole r input' → AnswersOne Gains ways May old new s s' (n == 0) r.held true → Writes s' s'' [] → (more : ℕ) → more ≡ n + 1 → Finishes Gains ways May m new s'' more bytes
 closes_at x m input input' old new s s' s'' left r n bytes g w one flushed more counts =
     let last : true ≡ false → lines_of (r.left ++ w.1) ≡ [] = λ e. absurd cc in
     finished x m input old new s s' s'' left n bytes r.held w.0 (lines_of (r.left ++ w.1)) true g (lines_whole m input input' old s left r n bytes g w) w.3 one last flushed more counts
 
 -- the remaining bytes were the last line
 pub rest_last : {V : Type 0} {Gains : V → V → List Did → Type 0} {ways : Ways} {May : V → ℕ → Type 0} → Laws Gains May → (m : Moment V) (input input' : Option (List ℕ)) (old new : V) (s s' s'' : Sending) (left : List ℕ) (r : ReaderValue) (n : ℕ) (bytes : List ℕ) (closes : Bool) → (g : GoesOn Gains ways May m input old s left n bytes)
-    → Comes (left ++ g.unread) Rest r input' → AnswersOne Gains ways May old new s s' r.held closes → Writes s' s'' [] → (more : ℕ) → more ≡ n + 1 → Finishes Gains ways May m new s'' more bytes
+    → Comes (left ++ g.unread) Rest r input' → AnswersOne Gains ways May old new s s' (n == 0) r.held closes → Writes s' s'' [] → (more : ℕ) → more ≡ n + 1 → Finishes Gains ways May m new s'' more bytes
 rest_last x m input input' old new s s' s'' left r n bytes closes g w one flushed more counts =
     finished x m input old new s s' s'' left n bytes r.held (left ++ g.unread) [] closes g (lines_rest m input input' old s left r n bytes g w) w.2 one (λ _. refl) flushed more counts
 

@@ -315,27 +315,27 @@ HandsOver (Grows parents) = Unit {0}
 HandsOver _ = ⊥
 
 -- what an engine does for another request doesn't depend on whether engines take over from one another
-pub grows_too : (seals grows : Bool) (reads : TextReading) (keys : Keying) (r : LineValue) (own : List Did) (o : RequestOutcome) → (HandsOver r → grows ≡ false)
-    → CameOf (record { seals = seals; grows = false; reads = reads; keys = keys }) r own o → CameOf (record { seals = seals; grows = grows; reads = reads; keys = keys }) r own o
-grows_too seals grows reads keys (Registers name text) own o other w = w
-grows_too seals grows reads keys (RegistersText text) own o other w = w
-grows_too seals grows reads keys (Replaces text) own o other w = subst (λ b. IsReplacement b reads text own o) (sym (other tt)) w
-grows_too seals grows reads keys (Calls name args) own o other w = w
-grows_too seals grows reads keys (CallsOnce name args key) own o other w = w
-grows_too seals grows reads keys (Batches calls workers) own o other w = w
-grows_too seals grows reads keys (Grows parents) own o other w = subst (λ b. IsGrowth b parents own o) (sym (other tt)) w
-grows_too seals grows reads keys Seals own o other w = w
-grows_too seals grows reads keys Closes own o other w = w
+pub grows_too : (seals grows frozen : Bool) (reads : TextReading) (keys : Keying) (r : LineValue) (own : List Did) (o : RequestOutcome) → (HandsOver r → grows ≡ false)
+    → CameOf (record { seals = seals; grows = false; reads = reads; keys = keys; frozen = false }) r own o → CameOf (record { seals = seals; grows = grows; reads = reads; keys = keys; frozen = frozen }) r own o
+grows_too seals grows frozen reads keys (Registers name text) own o other w = w
+grows_too seals grows frozen reads keys (RegistersText text) own o other w = w
+grows_too seals grows frozen reads keys (Replaces text) own o other w = subst (λ b. IsReplacement b reads text own o) (sym (other tt)) w
+grows_too seals grows frozen reads keys (Calls name args) own o other w = w
+grows_too seals grows frozen reads keys (CallsOnce name args key) own o other w = w
+grows_too seals grows frozen reads keys (Batches calls workers) own o other w = w
+grows_too seals grows frozen reads keys (Grows parents) own o other w = subst (λ b. IsGrowth b parents own o) (sym (other tt)) w
+grows_too seals grows frozen reads keys Seals own o other w = w
+grows_too seals grows frozen reads keys Closes own o other w = w
 
 -- the same for a relay that uses one of its engines
-pub performed : (grows : Bool) (reads : TextReading) (keys : Keying) (r : LineValue) (old new : ℕ) (o : Option Done) → (HandsOver r → grows ≡ false)
-    → IfSome o (λ d. (own : List Did) × CameOf (record { seals = true; grows = false; reads = reads; keys = keys }) r own d.outcome × HasKept own) → IfSome o (λ d. (old ≤ d.base) × (new ≡ d.base))
-    → IfSome o (λ d. (own : List Did) × CameOf (record { seals = true; grows = grows; reads = reads; keys = keys }) r own d.outcome × GoesOnFrom old new (map (later_did d.base) own))
-performed grows reads keys r old new None other came later = tt
-performed grows reads keys r old new (Some d) other came later =
+pub performed : (grows frozen : Bool) (reads : TextReading) (keys : Keying) (r : LineValue) (old new : ℕ) (o : Option Done) → (HandsOver r → grows ≡ false)
+    → IfSome o (λ d. (own : List Did) × CameOf (record { seals = true; grows = false; reads = reads; keys = keys; frozen = false }) r own d.outcome × HasKept own) → IfSome o (λ d. (old ≤ d.base) × (new ≡ d.base))
+    → IfSome o (λ d. (own : List Did) × CameOf (record { seals = true; grows = grows; reads = reads; keys = keys; frozen = frozen }) r own d.outcome × GoesOnFrom old new (map (later_did d.base) own))
+performed grows frozen reads keys r old new None other came later = tt
+performed grows frozen reads keys r old new (Some d) other came later =
     let (own, done, kept) = came in
     let from = later.0 in
-    (own, grows_too true grows reads keys r own d.outcome other done, (omega (arith, from, later.1), later_all old d.base own from, of_session d.base own kept))
+    (own, grows_too true grows frozen reads keys r own d.outcome other done, (omega (arith, from, later.1), later_all old d.base own from, of_session d.base own kept))
 
 -- a request of another kind
 pub no_hand_over : (q : LineRequest) → ((text : String Global) → q ≡ Replace text → ⊥) → ((parents : Vec ℤ Global) → q ≡ Grow parents → ⊥) → HandsOver (line_view q) → ⊥

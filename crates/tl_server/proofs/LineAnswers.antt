@@ -1,5 +1,5 @@
 -- The answer to a line.
-use Rattle.std.proofs.Common.{◌≡◌, ◌≢◌, ◌+◌, ◌<◌, ◌⊎◌, ◌++◌, List, ℕ, ℤ, [], refl, sym, ◌∙◌, inl, inr, Bool, true, false}
+use Rattle.std.proofs.Common.{◌≡◌, ◌≢◌, ◌+◌, ◌<◌, ◌⊎◌, ◌++◌, List, ℕ, ℤ, [], refl, sym, subst, ◌∙◌, inl, inr, Bool, true, false}
 use Rattle.std.specs.Prelude.{◌↔◌, Result, Ok, Err, IfOk, IfErr, OnErr, Vec}
 use Rattle.std.specs.declared.alloc.Global.{Global}
 use Rattle.tl_procedures.specs.declared.request.Request.{Request}
@@ -15,11 +15,12 @@ use Rattle.tl_table.specs.declared.epoch.TheConstants.{MAX_EPOCHS}
 use Rattle.tl_workers.specs.Refusals.{IsCallRefusal, AreCallRefusals, IsSealRefused, IsRestedSealRefused}
 use Rattle.tl_server.specs.declared.fault.LineFault.{LineFault}
 use Rattle.tl_server.specs.declared.fault.LineFault.TheVariants as fault
-use Rattle.tl_server.specs.Faults.{numbers_of}
+use Rattle.tl_server.specs.Faults.{numbers_of, ruling_numbers_of}
+use Rattle.tl_server.specs.declared.fault.RulingFault.TheVariants.{Frozen}
 use Rattle.tl_workers.specs.declared.session.Did.{Did}
-use Rattle.tl_server.specs.Requests.{LineValue, IsRequest, IsLineFault}
+use Rattle.tl_server.specs.Requests.{LineValue, is_barred, IsRequest, IsLineFault}
 use Rattle.tl_server.specs.Answers.{line_text, error_text}
-use Rattle.tl_server.specs.Served.{keying, Ways, AnswersLine, AnswersRequest, IsRefused, IsSealable, SealOutcome}
+use Rattle.tl_server.specs.Served.{keying, Ways, AnswersLine, AnswersRequest, AnswersUnless, IsRefused, IsSealable, SealOutcome}
 
 -- a line that isn't read as a request
 pub faulted : (ways : Ways) (may_seal : ℕ → Type 0) (line : List ℕ) (f : LineFault) → (f ≢ fault.Memory → IsLineFault line f) → AnswersLine ways may_seal line [] (line_text (error_text (numbers_of f)))
@@ -43,10 +44,18 @@ granted true claim seals q s t (Err e) none is args kept err refused = ([], err,
 granted false claim seals q s t answer none is args kept err refused = let both : Granted ≡ NoStore = sym is ∙ none.1 refl in absurd cc
 
 -- the answer to a request is the answer to a line that contains it
-pub asked_line : (ways : Ways) (may_seal : ℕ → Type 0) (line : List ℕ) (r : LineValue) (gained : List Did) (out : List ℕ) → IsRequest line r → (IsRefused gained out ⊎ AnswersRequest ways may_seal r gained out)
+pub asked_line : (ways : Ways) (may_seal : ℕ → Type 0) (line : List ℕ) (r : LineValue) (gained : List Did) (out : List ℕ) → IsRequest line r → is_barred ways.frozen r ≡ false → (IsRefused gained out ⊎ AnswersRequest ways may_seal r gained out)
     → AnswersLine ways may_seal line gained out
-asked_line ways may_seal line r gained out is (inl refused) = inl refused
-asked_line ways may_seal line r gained out is (inr answer) = inr (inr (r, is, answer))
+asked_line ways may_seal line r gained out is free (inl refused) = inl refused
+asked_line ways may_seal line r gained out is free (inr answer) =
+    let P : Bool → Type 0 = λ b. AnswersUnless b ways may_seal r gained out in
+    inr (inr (r, is, subst P (sym free) answer))
+
+-- a request that is barred
+pub barred_line : (ways : Ways) (may_seal : ℕ → Type 0) (line : List ℕ) (r : LineValue) → IsRequest line r → is_barred ways.frozen r ≡ true → AnswersLine ways may_seal line [] (line_text (error_text (ruling_numbers_of Frozen)))
+barred_line ways may_seal line r is barred =
+    let P : Bool → Type 0 = λ b. AnswersUnless b ways may_seal r [] (line_text (error_text (ruling_numbers_of Frozen))) in
+    inr (inr (r, is, subst P (sym barred) (refl, refl)))
 
 -- the result of a batch
 pub batch_came : (requests : List Request) (s t : SessionValue) (seals : Bool) (answer : Result (Vec (Result Receipt Refusal) Global) Refusal) → IfOk answer (λ v. AnswersEach requests v.items)

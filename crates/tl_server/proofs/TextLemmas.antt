@@ -40,7 +40,7 @@ unreadable reader text fault.Memory is = tt
 -- what an engine does for a request other than the registration of a text and a call with a key doesn't depend on who reads texts and keeps keys
 pub reads_too : (seals : Bool) (reads : TextReading) (keys : Keying) (q : LineRequest) (own : List Did) (o : RequestOutcome) → ((text : String Global) → q ≡ RegisterText text → ⊥)
     → ((call : KeyedCall) → q ≡ CallOnce call → ⊥)
-    → CameOf (record { seals = seals; grows = false; reads = NoTexts; keys = KnowsNoKeys }) (line_view q) own o → CameOf (record { seals = seals; grows = false; reads = reads; keys = keys }) (line_view q) own o
+    → CameOf (record { seals = seals; grows = false; reads = NoTexts; keys = KnowsNoKeys; frozen = false }) (line_view q) own o → CameOf (record { seals = seals; grows = false; reads = reads; keys = keys; frozen = false }) (line_view q) own o
 reads_too seals reads keys (Register p) own o other once came = came
 reads_too seals reads keys (RegisterText text) own o other once came = absurd (other text refl)
 reads_too seals reads keys (Replace text) own o other once came = came

@@ -7,6 +7,8 @@ use Rattle.tl_server.specs.declared.texts.ReplaceFault.{ReplaceFault}
 use Rattle.tl_server.specs.declared.texts.ReplaceFault.TheVariants as replace
 use Rattle.tl_server.specs.declared.fault.KeyFault.{KeyFault}
 use Rattle.tl_server.specs.declared.fault.KeyFault.TheVariants.{NoStore}
+use Rattle.tl_server.specs.declared.fault.RulingFault.{RulingFault}
+use Rattle.tl_server.specs.declared.fault.RulingFault.TheVariants.{Frozen}
 use Rattle.tl_server.specs.declared.fault.ServeFault.{ServeFault}
 use Rattle.tl_server.specs.declared.fault.ServeFault.TheVariants as serve
 use Rattle.tl_server.specs.declared.fault.ListenFault.{ListenFault}
@@ -26,6 +28,10 @@ numbers_of Memory = 990 ∷ []
 -- the number of the reason why a call with a key isn't run
 abbrev pub key_numbers_of : KeyFault → List ℕ
 key_numbers_of NoStore = 1015 ∷ []
+
+-- the number of the reason why a request by which a client rules isn't carried out
+abbrev pub ruling_numbers_of : RulingFault → List ℕ
+ruling_numbers_of Frozen = 1101 ∷ []
 
 -- the numbers of the reason why the procedures of a text aren't registered
 abbrev pub text_numbers_of : TextFault → List ℕ

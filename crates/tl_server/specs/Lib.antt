@@ -1,6 +1,7 @@
 pub mod Faults
 pub mod Requests
 pub mod Lines
+pub mod Browsers
 pub mod Devices
 pub mod Coming
 pub mod Sending

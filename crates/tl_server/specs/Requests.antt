@@ -1,5 +1,5 @@
 -- The request that a line contains.
-use Rattle.std.specs.Prelude.{◌≡◌, ◌≤◌, ◌<◌, ◌==◌, ◌&&◌, ℕ, ℤ, pos, negsuc, List, map, length, codes, Bool, false, nat_lt, nat_le, Option, Some, None, option_map, option_and_then, string_bytes, if◌then◌else◌, unwrap_or, IsUtf8}
+use Rattle.std.specs.Prelude.{◌≡◌, ◌≤◌, ◌<◌, ◌==◌, ◌&&◌, ℕ, ℤ, pos, negsuc, List, map, length, codes, Bool, true, false, nat_lt, nat_le, Option, Some, None, option_map, option_and_then, string_bytes, if◌then◌else◌, unwrap_or, IsUtf8}
 use Rattle.std.specs.Str.{bytes_eq}
 use Rattle.serde_json.specs.Data.{Data}
 use Rattle.serde_json.specs.Events.{members_len}
@@ -38,6 +38,22 @@ line_view (Batch b) = Batches (map request_form b.requests.items) b.workers
 line_view (Grow parents) = Grows parents.items
 line_view Seal = Seals
 line_view Close = Closes
+
+-- the client rules by the request: it changes which procedures or nodes there are, or seals an epoch
+abbrev pub rules : LineValue → Bool
+rules (Registers name text) = true
+rules (RegistersText text) = true
+rules (Replaces text) = true
+rules (Calls name args) = false
+rules (CallsOnce name args key) = false
+rules (Batches calls workers) = false
+rules (Grows parents) = true
+rules Seals = true
+rules Closes = false
+
+-- a frozen server refuses requests by which a client rules
+abbrev pub is_barred : Bool → LineValue → Bool
+is_barred frozen r = frozen && rules r
 
 -- ---- the nine forms
 

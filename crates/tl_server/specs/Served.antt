@@ -31,8 +31,10 @@ use Rattle.tl_server.specs.declared.texts.ReplaceFault.TheVariants as replace
 use Rattle.tl_server.specs.declared.fault.LineFault.{LineFault}
 use Rattle.tl_server.specs.declared.fault.LineFault.TheVariants.{NotRequest}
 use Rattle.tl_server.specs.declared.fault.KeyFault.TheVariants.{NoStore}
-use Rattle.tl_server.specs.Faults.{numbers_of, key_numbers_of}
-use Rattle.tl_server.specs.Requests.{LineValue, Registers, RegistersText, Replaces, Calls, CallsOnce, Batches, Grows, Seals, Closes, IsRequest, IsLineFault}
+use Rattle.tl_server.specs.declared.fault.RulingFault.TheVariants.{Frozen}
+use Rattle.tl_server.specs.Browsers.{is_of_browser, is_first, AreOfClients}
+use Rattle.tl_server.specs.Faults.{numbers_of, key_numbers_of, ruling_numbers_of}
+use Rattle.tl_server.specs.Requests.{LineValue, Registers, RegistersText, Replaces, Calls, CallsOnce, Batches, Grows, Seals, Closes, is_barred, IsRequest, IsLineFault}
 use Rattle.tl_keys.specs.Kept.{KeptValue}
 use Rattle.tl_server.specs.Answers.{one_text, kept_text, error_text, batch_text, register_text, text_register_text, replace_text, growth_text, seal_text, closed_text, line_text}
 
@@ -186,12 +188,13 @@ IsReplaceAnswer false reads text out = out ≡ line_text (error_text (numbers_of
 -- ---- lines, where the epochs with such numbers may be sealed
 
 -- what the server can do: whether its engines seal their epochs by themselves, whether nodes can be appended to its tree and procedures replaced, who reads
--- texts of procedures, and what is done about keys
+-- texts of procedures, what is done about keys, and whether it is frozen
 pub record Ways : Type 1 where
   pub seals : Bool
   pub grows : Bool
   pub reads : TextReading
   pub keys : Keying
+  pub frozen : Bool
 
 -- the answer to a request after which reading goes on, and what the session gained by it
 abbrev pub AnswersRequest : Ways → (ℕ → Type 0) → LineValue → List Did → List ℕ → Type 0
@@ -206,20 +209,26 @@ AnswersRequest ways may_seal (Grows parents) gained out = (gained ≡ []) × IsG
 AnswersRequest ways may_seal Seals gained out = (gained ≡ []) × ((answer : Result ℕ Refusal) × SealOutcome ways.seals may_seal answer × (out ≡ line_text (seal_text answer)))
 AnswersRequest ways may_seal Closes gained out = ⊥
 
+-- the same if the request isn't barred; else that it is
+abbrev pub AnswersUnless : Bool → Ways → (ℕ → Type 0) → LineValue → List Did → List ℕ → Type 0
+AnswersUnless true ways may_seal r gained out = (gained ≡ []) × (out ≡ line_text (error_text (ruling_numbers_of Frozen)))
+AnswersUnless false ways may_seal r gained out = AnswersRequest ways may_seal r gained out
+
 -- the answer to a line after which reading goes on
 abbrev pub AnswersLine : Ways → (ℕ → Type 0) → List ℕ → List Did → List ℕ → Type 0
 AnswersLine ways may_seal line gained out =
     IsRefused gained out
     ⊎ ((f : LineFault) × IsLineFault line f × (gained ≡ []) × (out ≡ line_text (error_text (numbers_of f))))
-    ⊎ ((r : LineValue) × IsRequest line r × AnswersRequest ways may_seal r gained out)
+    ⊎ ((r : LineValue) × IsRequest line r × AnswersUnless (is_barred ways.frozen r) ways may_seal r gained out)
 
--- the line closes the connection and has the answer for that
-abbrev pub ClosesLine : List ℕ → List Did → List ℕ → Type 0
-ClosesLine line gained out = IsRequest line Closes × (gained ≡ []) × (out ≡ line_text closed_text)
+-- the answer to a line that ends the connection, which may be its first: the line asks for that, or a browser sent it
+abbrev pub EndsLine : Bool → List ℕ → List ℕ → Type 0
+EndsLine first line out = (IsRequest line Closes × (out ≡ line_text closed_text)) ⊎ ((is_of_browser first line ≡ true) × (out ≡ line_text (error_text (numbers_of NotRequest))))
 
-abbrev pub IsAnswer : Ways → (ℕ → Type 0) → List ℕ → Bool → List Did → List ℕ → Type 0
-IsAnswer ways may_seal line false gained out = AnswersLine ways may_seal line gained out
-IsAnswer ways may_seal line true gained out = ClosesLine line gained out
+-- the answer to a line, and whether it ends the connection
+abbrev pub IsAnswer : Ways → (ℕ → Type 0) → Bool → List ℕ → Bool → List Did → List ℕ → Type 0
+IsAnswer ways may_seal first line false gained out = (is_of_browser first line ≡ false) × AnswersLine ways may_seal line gained out
+IsAnswer ways may_seal first line true gained out = (gained ≡ []) × EndsLine first line out
 
 -- one answer for each line, in order, and what the session gained by them
 abbrev pub Answered : Ways → (ℕ → Type 0) → List (List ℕ) → List Did → List ℕ → Type 0
@@ -227,18 +236,20 @@ Answered ways may_seal [] gained out = (gained ≡ []) × (out ≡ [])
 Answered ways may_seal (l ∷ ls) gained out =
     (g : List Did) × (gs : List Did) × (o : List ℕ) × (os : List ℕ) × (gained ≡ g ++ gs) × (out ≡ o ++ os) × AnswersLine ways may_seal l g o × Answered ways may_seal ls gs os
 
--- The last of the n lines read closed the connection, and the lines before it were answered.
+-- The last of the n lines read ended the connection, and the lines before it were answered.
 pub record ClosedAt (ways : Ways) (may_seal : ℕ → Type 0) (lines : List (List ℕ)) (n : ℕ) (gained : List Did) (out : List ℕ) : Type 0 where
   pub before : List (List ℕ)
   pub last : List ℕ
   pub after : List (List ℕ)
   pub answers : List ℕ
+  pub ending : List ℕ
   pub lines_are : lines ≡ before ++ last ∷ after
   pub count : n ≡ length before + 1
+  pub clients : AreOfClients before
   pub answered : Answered ways may_seal before gained answers
-  pub closes : IsRequest last Closes
-  pub out_is : out ≡ answers ++ line_text closed_text
+  pub ends : EndsLine (is_first before) last ending
+  pub out_is : out ≡ answers ++ ending
 
--- the first n of these lines were answered: all of them, or those up to the one that closed the connection
+-- the first n of these lines were answered: all of them, or those up to the one that ended the connection
 abbrev pub AnsweredAll : Ways → (ℕ → Type 0) → List (List ℕ) → ℕ → List Did → List ℕ → Type 0
-AnsweredAll ways may_seal lines n gained out = ((n ≡ length lines) × Answered ways may_seal lines gained out) ⊎ ClosedAt ways may_seal lines n gained out
+AnsweredAll ways may_seal lines n gained out = ((n ≡ length lines) × AreOfClients lines × Answered ways may_seal lines gained out) ⊎ ClosedAt ways may_seal lines n gained out

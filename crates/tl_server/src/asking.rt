@@ -11,10 +11,13 @@ use std::net::{Net, TcpListener, TcpStream};
 /// The answer to the request to stop.
 pub(crate) const STOPPING: &[u8] = b"{\"stopping\":true}\n";
 
-// How the answer to the request for the status begins, and how many bytes it has at most: six names, and six numbers of at most 20 digits.
+// How the answer to the request for the status begins, and how many bytes it has at most: nine names, and nine numbers of at most 20 digits.
 const STATUS_BEGIN: &str = "{\"epoch\":";
 
-const MAX_STATUS: u64 = 256;
+const MAX_STATUS: u64 = 512;
+
+// How many bytes the answer to a request has at most: 256 names of 32 bytes, each with three numbers of at most 20 digits, have fewer.
+const MAX_ANSWER: u64 = 65_536;
 
 /// How the answer to the request for a copy begins, up to its name, and how it ends.
 pub(crate) const COPIED: &str = "{\"snapshot\":\"";
@@ -61,6 +64,25 @@ pub fn ask_status<R: Net<Listener = TcpListener, Stream = TcpStream>>(
     let line = io::read_to_string(alloc, peer.take(MAX_STATUS))?;
     if line.starts_with(STATUS_BEGIN) && line.ends_with('\n') {
         Ok(line)
+    } else {
+        Err(not_understood())
+    }
+}
+
+/// Asks the server with this control port or socket to do what a line asks for, which has its LF: to register or replace procedures, to append
+/// nodes, or to seal. The line of its answer, with its LF. An error if nobody is there, or another program.
+pub fn ask_to_obey<R: Net<Listener = TcpListener, Stream = TcpStream>>(
+    rt: &R,
+    alloc: Global,
+    control: Address<'_>,
+    line: &str,
+) -> io::Result<String> {
+    let stream = Stream::connect(rt, control)?;
+    let mut peer = &stream;
+    peer.write_all(line.as_bytes())?;
+    let answer = io::read_to_string(alloc, peer.take(MAX_ANSWER))?;
+    if answer.starts_with('{') && answer.ends_with('\n') {
+        Ok(answer)
     } else {
         Err(not_understood())
     }

@@ -11,6 +11,7 @@ use crate::entrance::{Entrance, Listener};
 use crate::fault::ListenFault;
 use crate::hall::{Hall, Phase};
 use crate::outbox::Outbox;
+use crate::request::{LineRequest, is_barred, read_request};
 use crate::socket::SocketSink;
 use crate::status::{Reporter, Status, put_status_line};
 use crate::stream::{Address, Stream};
@@ -20,36 +21,47 @@ use std::net::{Net, TcpListener, TcpStream};
 use std::rt::Files;
 use std::str;
 use std::sync::Wait;
+use std::thread::Threads;
 use std::time::{Clock, Duration};
 
 // The answer to what is none of the requests, or to one for something that the server doesn't say.
-const NO_REQUEST: &[u8] = b"{\"error\":[901]}\n";
+pub(crate) const NO_REQUEST: &[u8] = b"{\"error\":[901]}\n";
 
 // The answer if memory is refused.
-const NO_MEMORY: &[u8] = b"{\"error\":[990]}\n";
+pub(crate) const NO_MEMORY: &[u8] = b"{\"error\":[990]}\n";
 
 // How many milliseconds pass before the control is checked again.
 const PAUSE: u64 = 100;
 
-// A peer that doesn't wait for the answer has asked all the same.
-fn answer(stream: &Stream, text: &[u8]) {
+/// Answers a peer. One that doesn't wait for the answer has asked all the same.
+pub(crate) fn say(stream: &Stream, text: &[u8]) {
     let _ = write_all(&mut SocketSink::new(stream), text);
 }
 
 // Answers how far the server is, or that memory is refused.
 fn tell(alloc: Global, stream: &Stream, status: &Status) {
     let Ok(mut outbox) = Outbox::new(alloc) else {
-        return answer(stream, NO_MEMORY);
+        return say(stream, NO_MEMORY);
     };
     let mut sink = SocketSink::new(stream);
     put_status_line(&mut outbox, &mut sink, status);
     outbox.flush(&mut sink);
 }
 
+// Answers with an error.
+fn tell_fault(alloc: Global, stream: &Stream, numbers: &[u64]) {
+    let Ok(mut outbox) = Outbox::new(alloc) else {
+        return say(stream, NO_MEMORY);
+    };
+    let mut sink = SocketSink::new(stream);
+    put_error_line(&mut outbox, &mut sink, numbers);
+    outbox.flush(&mut sink);
+}
+
 // Answers that there is a copy of that name, or why not.
 fn tell_copied(alloc: Global, stream: &Stream, name: &str, copied: Result<(), CopyRefusal>) {
     let Ok(mut outbox) = Outbox::new(alloc) else {
-        return answer(stream, NO_MEMORY);
+        return say(stream, NO_MEMORY);
     };
     let mut sink = SocketSink::new(stream);
     match copied {
@@ -63,7 +75,29 @@ fn tell_copied(alloc: Global, stream: &Stream, name: &str, copied: Result<(), Co
     outbox.flush(&mut sink);
 }
 
-/// A local port or a Unix socket on which a server is asked to stop, and how far it is.
+// Answers a line by which an operator rules: to register or replace procedures, to append nodes, or to seal. It is heeded also where the
+// server is frozen. False if what was done isn't stored, and won't be.
+fn obey<R: Threads + Wait + Sync, T: Reporter>(
+    rt: &R,
+    alloc: Global,
+    stream: &Stream,
+    line: &[u8],
+    reporter: &T,
+) -> bool {
+    match read_request(alloc, line) {
+        Ok(LineRequest::Close) => say(stream, NO_REQUEST),
+        Ok(request) => {
+            if is_barred(true, &request) {
+                return reporter.obey(rt, alloc, &request, stream);
+            }
+            say(stream, NO_REQUEST);
+        }
+        Err(fault) => tell_fault(alloc, stream, fault.numbers().as_slice()),
+    }
+    true
+}
+
+/// A local port or a Unix socket on which a server is asked to stop, how far it is, and for what an operator alone may ask.
 #[derive(Drop)]
 pub struct Control<'a> {
     entrance: Entrance<'a>,
@@ -94,10 +128,10 @@ impl<'a> Control<'a> {
         entrance.close(rt);
     }
 
-    // Answers the next peer, if there is one. Whether it asks to stop.
-    fn is_asked<T: Reporter>(
+    // Answers the next peer, if there is one. Whether the server has to stop: it was asked to, or what was done isn't stored.
+    fn is_asked<R: Threads + Wait + Clock + Sync, T: Reporter>(
         &self,
-        rt: &impl Wait,
+        rt: &R,
         alloc: Global,
         hall: &Hall,
         reporter: &T,
@@ -105,27 +139,33 @@ impl<'a> Control<'a> {
         let Ok(stream) = self.entrance.listener.accept() else {
             return false;
         };
-        match wish_of(&stream) {
+        let Ok(wish) = wish_of(rt, alloc, &stream) else {
+            say(&stream, NO_MEMORY);
+            return false;
+        };
+        match wish {
             Wish::Stop => {
-                answer(&stream, STOPPING);
+                say(&stream, STOPPING);
                 return true;
             }
-            Wish::Status => match reporter.status(rt, hall.connections(rt)) {
+            Wish::Status => match reporter.status(rt, hall.connections(rt), hall.places()) {
                 Some(status) => tell(alloc, &stream, &status),
-                None => answer(&stream, NO_REQUEST),
+                None => say(&stream, NO_REQUEST),
             },
+            Wish::Request(line) => return !obey(rt, alloc, &stream, &line, reporter),
             Wish::Copy(name) => {
                 // A name that isn't UTF-8 is none that a copy has.
                 let name = str::from_utf8(&name).unwrap_or("");
                 tell_copied(alloc, &stream, name, reporter.copy(rt, alloc, name));
             }
-            Wish::Other => answer(&stream, NO_REQUEST),
+            Wish::Other => say(&stream, NO_REQUEST),
         }
         false
     }
 
     /// Answers its peers until all connections of the server with that listener have ended. A request to stop stops the server. One
-    /// for its status or for a copy is answered by what the reporter says or does, and with an error if it says or does nothing.
+    /// for its status, for a copy, or by which an operator rules is answered by what the reporter says or does, and with an error if it says or
+    /// does nothing.
     pub(crate) fn watch<R, T: Reporter>(
         &self,
         rt: &R,
@@ -135,7 +175,7 @@ impl<'a> Control<'a> {
         reporter: &T,
     )
     where
-        R: Net<Listener = TcpListener, Stream = TcpStream> + Wait + Clock,
+        R: Net<Listener = TcpListener, Stream = TcpStream> + Threads + Wait + Clock + Sync,
     {
         for _ in rt.forever() {
             if self.is_asked(rt, alloc, hall, reporter) {

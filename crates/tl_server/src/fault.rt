@@ -105,6 +105,29 @@ impl ServeFault {
     }
 }
 
+/// Why a request by which a client rules isn't carried out.
+#[derive(Clone, Copy, Debug, PartialEq, Eq, Error)]
+pub enum RulingFault {
+    /// 1101: the server is frozen. Only its control registers and replaces procedures, appends nodes and seals epochs.
+    #[error("the server is frozen: only its control registers, replaces, appends and seals")]
+    Frozen,
+}
+
+impl RulingFault {
+    ghost use Rattle.tl_server.specs.Faults.{ruling_numbers_of};
+
+    /// The fault's number.
+    pub fn numbers(&self) -> ArrayVec<u64, 3>
+        ensures { result.items ≡ ruling_numbers_of self.now }
+    {
+        let mut numbers = ArrayVec::new();
+        numbers.push(match self {
+            RulingFault::Frozen => 1101,
+        });
+        numbers
+    }
+}
+
 /// Why no connection is served.
 #[derive(Clone, Copy, Debug, PartialEq, Eq, Error)]
 pub enum ListenFault {

@@ -7,8 +7,11 @@ use std::sync::{Condvar, Mutex, Wait};
 use std::time::{Clock, Duration};
 use tl_workers::Session;
 
-/// How many connections are open at once at most, if nothing else is asked for.
+/// How many connections of a server that ends after so many are open at once at most, if nothing else is asked for.
 pub const MAX_CONNECTIONS: u16 = 8;
+
+/// The same of a server without an end.
+pub const LASTING_PLACES: u16 = 256;
 
 /// How many may be asked for.
 pub const MAX_PLACES: u16 = 1_024;
@@ -90,6 +93,21 @@ impl Hall {
     /// Set once connections are asked to end.
     pub fn is_ending(&self) -> &AtomicBool {
         &self.is_ending
+    }
+
+    /// How many connections may be open at once.
+    pub fn places(&self) -> u64 {
+        u64::from(self.places)
+    }
+
+    /// Whether as many connections are open as may be, so that the next one waits.
+    pub fn is_full(&self, rt: &impl Wait) -> bool {
+        self.served.lock(rt).open >= self.places
+    }
+
+    /// Whether connections are accepted.
+    pub fn is_serving(&self, rt: &impl Wait) -> bool {
+        self.served.lock(rt).phase == Phase::Serving
     }
 
     /// Waits until one more connection may be open, and counts it. False if no more are accepted.

@@ -6,7 +6,7 @@ ghost use Rattle.tl_server.specs.declared.fault.ListenFault.TheVariants.{Memory}
 use crate::control::Control;
 use crate::entrance::{Entrance, Listener};
 use crate::fault::ListenFault;
-use crate::hall::{Hall, MAX_CONNECTIONS, Phase};
+use crate::hall::{Hall, LASTING_PLACES, Phase};
 use crate::journal::Journal;
 use crate::keeper::Keeper;
 use crate::listening::{Door, helpers};
@@ -25,6 +25,9 @@ use std::thread;
 use std::thread::Threads;
 use std::time::{Clock, Duration};
 
+// How many milliseconds pass after a connection that couldn't be accepted.
+const PAUSE: u64 = 100;
+
 // What the threads of connections share.
 #[derive(Drop)]
 struct Room<'a, K, J> {
@@ -42,7 +45,7 @@ fn visit<R, K: Keeper + Texts, J: Journal>(
     stream: Stream,
 )
 where
-    R: Net<Listener = TcpListener, Stream = TcpStream> + Threads + Wait + Sync,
+    R: Net<Listener = TcpListener, Stream = TcpStream> + Eprint + Threads + Wait + Sync,
 {
     let (relay, hall) = (room.relay, room.hall);
     let mut place = Place::new();
@@ -57,6 +60,11 @@ where
     }
     drop(stream);
     hall.give_place(rt, number);
+    if relay.tells_of_browser() {
+        let _shown = eprintln!(rt;
+            "treedb: a browser sent a request; its connection was ended, and nothing of it was done"
+        );
+    }
 }
 
 // Serves the connections that come through the door, while threads stay that help with batches.
@@ -68,7 +76,7 @@ fn serve_all<R, K: Keeper + Texts + Send, J: Journal + Sync>(
     hall: &Hall,
 )
 where
-    R: Net<Listener = TcpListener, Stream = TcpStream> + Threads + Wait + Sync,
+    R: Net<Listener = TcpListener, Stream = TcpStream> + Eprint + Threads + Wait + Clock + Sync,
 {
     match relay.crew() {
         Some(crew) => {
@@ -82,6 +90,34 @@ where
     hall.enter(rt, Phase::Over);
 }
 
+// Says once that as many connections are open as may be, if so.
+fn tell_full<R: Eprint + Wait>(rt: &R, hall: &Hall, told: &mut bool) {
+    if !*told && hall.is_full(rt) {
+        *told = true;
+        let _shown = eprintln!(rt;
+            "treedb: {} connections are open, so the next one waits (--at-once)",
+            hall.places()
+        );
+    }
+}
+
+// The next connection, of this number, if it may be served. Where none can be accepted, as where no more files may be open, that is tried
+// again soon, until the server is asked to stop.
+fn next<R: Wait + Clock>(rt: &R, door: Door<'_>, number: u64, hall: &Hall) -> Option<Stream> {
+    for _ in rt.forever() {
+        match door.receive(rt, number, hall) {
+            Ok(served) => return served,
+            Err(_) => {
+                if !hall.is_serving(rt) {
+                    return None;
+                }
+                let _slept = thread::sleep(rt, Duration::from_millis(PAUSE));
+            }
+        }
+    }
+    unreachable!()
+}
+
 // Serves the connections that come through the door, each on a thread of its own if one can be started, otherwise on this
 // one.
 fn serve_each<R, K: Keeper + Texts + Send, J: Journal + Sync>(
@@ -92,7 +128,7 @@ fn serve_each<R, K: Keeper + Texts + Send, J: Journal + Sync>(
     hall: &Hall,
 )
 where
-    R: Net<Listener = TcpListener, Stream = TcpStream> + Threads + Wait + Sync,
+    R: Net<Listener = TcpListener, Stream = TcpStream> + Eprint + Threads + Wait + Clock + Sync,
 {
     let room = Room {
         relay,
@@ -101,11 +137,13 @@ where
     };
     let room = &room;
     thread::scope(thread::scope_env(), rt, |scope| {
+        let mut told = false;
         for number in 0..door.connections {
+            tell_full(rt, hall, &mut told);
             if !hall.take_place(rt) {
                 break;
             }
-            match door.receive(rt, number, hall) {
+            match next(rt, door, number, hall) {
                 Some(stream) => {
                     let started = scope.spawn(move || visit(rt, alloc, room, number, stream));
                     if let Err(refused) = started {
@@ -158,7 +196,7 @@ impl<'a> LastingServer<'a> {
         Ok(LastingServer {
             entrance,
             connections: u64::MAX,
-            places: MAX_CONNECTIONS,
+            places: LASTING_PLACES,
             idle: None,
         })
     }
@@ -171,7 +209,7 @@ impl<'a> LastingServer<'a> {
         }
     }
 
-    /// Holds open so many connections at once, from 1 to 1,024, in place of 8.
+    /// Holds open so many connections at once, from 1 to 1,024, in place of 256.
     pub fn with_places(self, places: u16) -> LastingServer<'a> {
         LastingServer { places, ..self }
     }
@@ -185,7 +223,7 @@ impl<'a> LastingServer<'a> {
         }
     }
 
-    /// Serves its connections until there were as many as it serves. A failed attempt to accept a connection counts as one. A
+    /// Serves its connections until there were as many as it serves. Where one can't be accepted, that is tried again soon. A
     /// connection that fails is ended, and the others go on; but if what was done can't be stored, no more connections are accepted, and
     /// those that are open are ended. In the end the socket's file is removed.
     pub fn serve<R, K: Keeper + Texts + Send, J: Journal + Sync>(
@@ -195,7 +233,13 @@ impl<'a> LastingServer<'a> {
         relay: &Relay<K, J>,
     )
     where
-        R: Files + Net<Listener = TcpListener, Stream = TcpStream> + Threads + Wait + Sync,
+        R: Files
+            + Net<Listener = TcpListener, Stream = TcpStream>
+            + Eprint
+            + Threads
+            + Wait
+            + Clock
+            + Sync,
     {
         let LastingServer {
             entrance,
@@ -214,8 +258,8 @@ impl<'a> LastingServer<'a> {
     }
 
     /// Serves its connections as `serve` does, until it is asked to stop at the control. Then it accepts no more
-    /// connections. On those that are open, each line that was read whole is answered, and then they are ended. 990 if memory is
-    /// refused before the first connection.
+    /// connections. On those that are open, each line that was read whole is answered, and then they are ended. 990 if memory, or a
+    /// thread for the control, is refused before the first connection.
     pub fn serve_until_stopped<R, K: Keeper + Texts + Send, J: Journal + Sync>(
         self,
         rt: &R,
@@ -224,7 +268,13 @@ impl<'a> LastingServer<'a> {
         control: &Control<'_>,
     ) -> Result<(), ListenFault>
     where
-        R: Files + Net<Listener = TcpListener, Stream = TcpStream> + Threads + Wait + Clock + Sync,
+        R: Files
+            + Net<Listener = TcpListener, Stream = TcpStream>
+            + Eprint
+            + Threads
+            + Wait
+            + Clock
+            + Sync,
         ensures { IfErr result (λ e. e ≡ Memory) }
     {
         let LastingServer {
@@ -238,20 +288,26 @@ impl<'a> LastingServer<'a> {
             return Err(ListenFault::Memory);
         };
         let listener = &entrance.listener;
-        // If no thread can be started, the control is watched only after all connections have ended.
-        thread::join(
-            rt,
-            || control.watch(rt, alloc, &hall, listener, relay),
-            || {
-                let door = Door {
-                    listener,
-                    connections,
-                    idle,
-                };
-                serve_all(rt, alloc, door, relay, &hall)
-            },
-        );
+        let hall = &hall;
+        // Without a thread of its own the control would be watched only after all connections have ended, which may be never.
+        let is_watched = thread::scope(thread::scope_env(), rt, |scope| {
+            let watches = move || control.watch(rt, alloc, hall, listener, relay);
+            if scope.spawn(watches).is_err() {
+                return false;
+            }
+            let door = Door {
+                listener,
+                connections,
+                idle,
+            };
+            serve_all(rt, alloc, door, relay, hall);
+            true
+        });
         entrance.close(rt);
-        Ok(())
+        if is_watched {
+            Ok(())
+        } else {
+            Err(ListenFault::Memory)
+        }
     }
 }

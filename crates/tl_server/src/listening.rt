@@ -16,9 +16,9 @@ use std::alloc::Global;
 use std::net::{Net, TcpListener, TcpStream};
 use std::rt::Files;
 use std::sync::Wait;
-use std::thread;
 use std::thread::Threads;
 use std::time::{Clock, Duration};
+use std::{io, thread};
 use tl_workers::{Engine, MAX_WORKERS, NoGate, Session};
 
 /// Where connections come from, how many of them, and how long one may be silent.
@@ -30,20 +30,23 @@ pub(crate) struct Door<'a> {
 }
 
 impl Door<'_> {
-    /// The next connection, of this number, if it may be served.
-    pub(crate) fn receive(self, rt: &impl Wait, number: u64, hall: &Hall) -> Option<Stream> {
-        let Ok(stream) = self.listener.accept() else {
-            return None;
-        };
+    /// The next connection, of this number, if it may be served. An error if it can't be accepted, as where no more files may be open.
+    pub(crate) fn receive(
+        self,
+        rt: &impl Wait,
+        number: u64,
+        hall: &Hall,
+    ) -> io::Result<Option<Stream>> {
+        let stream = self.listener.accept()?;
         if !hall.lets_in(rt, number, &stream) {
-            return None;
+            return Ok(None);
         }
         // If this fails, an answer may come later, but is the same.
         let _ = stream.send_at_once();
         // If these fail, a silent peer keeps its place.
         let _ = stream.set_read_timeout(self.idle);
         let _ = stream.set_write_timeout(self.idle);
-        Some(stream)
+        Ok(Some(stream))
     }
 }
 
@@ -57,7 +60,7 @@ fn welcome(
     hall: &Hall,
     outbox: &mut Outbox,
 ) -> Option<(Stream, Session)> {
-    let Some(stream) = door.receive(rt, number, hall) else {
+    let Ok(Some(stream)) = door.receive(rt, number, hall) else {
         return None;
     };
     match engine.session(rt, alloc) {
@@ -231,8 +234,8 @@ impl<'a> Server<'a> {
     }
 
     /// Serves its connections as `serve` does, until it is asked to stop at the control. Then it accepts no more
-    /// connections. On those that are open, each line that was read whole is answered, and then they are ended. 990 if memory is
-    /// refused before the first connection.
+    /// connections. On those that are open, each line that was read whole is answered, and then they are ended. 990 if memory, or a
+    /// thread for the control, is refused before the first connection.
     pub fn serve_until_stopped<R>(
         self,
         rt: &R,
@@ -258,21 +261,27 @@ impl<'a> Server<'a> {
         };
         let listener = &entrance.listener;
         let connections = u64::from(connections);
-        // If no thread can be started, the control is watched only after all connections have ended.
-        thread::join(
-            rt,
-            || control.watch(rt, alloc, &hall, listener, engine),
-            || {
-                let door = Door {
-                    listener,
-                    connections,
-                    idle,
-                };
-                serve_all(rt, alloc, door, engine, &hall, outbox)
-            },
-        );
+        let shared = &hall;
+        // Without a thread of its own the control would be watched only after all connections have ended.
+        let is_watched = thread::scope(thread::scope_env(), rt, |scope| {
+            let watches = move || control.watch(rt, alloc, shared, listener, engine);
+            if scope.spawn(watches).is_err() {
+                return false;
+            }
+            let door = Door {
+                listener,
+                connections,
+                idle,
+            };
+            serve_all(rt, alloc, door, engine, shared, outbox);
+            true
+        });
         entrance.close(rt);
-        Ok(hall.into_sessions())
+        if is_watched {
+            Ok(hall.into_sessions())
+        } else {
+            Err(ListenFault::Memory)
+        }
     }
 }
 

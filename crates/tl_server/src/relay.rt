@@ -9,15 +9,21 @@ ghost use Rattle.tl_server.specs.Requests.{line_view};
 ghost use Rattle.tl_server.specs.Outcomes.{IsAsked, CameOf, HasKept};
 ghost use Rattle.tl_server.specs.Served.{GrowthOutcome, ReplaceOutcome, ReadBy, keying};
 
+use crate::answer::put_error_line;
+use crate::control::{NO_MEMORY, say};
 use crate::copying::CopyRefusal;
 use crate::journal::{Journal, Unstored};
 use crate::keeper::Keeper;
-use crate::outcome::{Done, RequestOutcome};
+use crate::outbox::Outbox;
+use crate::outcome::{Done, RequestOutcome, put_outcome};
 use crate::request::LineRequest;
 use crate::seats::Seats;
 use crate::service::Service;
+use crate::socket::SocketSink;
 use crate::stage::{Pause, Place, Stage, knows_all};
 use crate::status::{Reporter, Status, Tally};
+use crate::stored_sink::StoredSink;
+use crate::stream::Stream;
 use crate::texts::{NamedBounds, ReplaceFault, TextProcedures, Texts, read_procedures};
 use std::alloc::Global;
 use std::sync::{Arc, Mutex, RwLock, Wait};
@@ -37,8 +43,8 @@ pub struct Relay<K, J> {
     journal: J,
     // After how many epochs the next engine takes over.
     epochs: u32,
-    // Whether nodes can be appended to the tree, and procedures replaced.
-    grows: bool,
+    // Whether only the control may register and replace procedures, append nodes, and seal.
+    frozen: bool,
     tally: Tally,
     // The threads that stay and help with batches. All engines share them.
     crew: Option<Arc<Crew>>,
@@ -49,6 +55,7 @@ impl<K: Keeper + Texts, J: Journal> Relay<K, J> {
     /// so many epochs, at least one.
     pub fn new(alloc: Global, engine: Engine, keeper: K, journal: J, epochs: u32) -> Relay<K, J>
         requires { engine.seals ≡ true }
+        ensures { result.frozen ≡ false }
     {
         let nodes = keeper.nodes();
         // Without a crew batches start threads of their own.
@@ -64,17 +71,19 @@ impl<K: Keeper + Texts, J: Journal> Relay<K, J> {
             keeper: Mutex::new(keeper),
             journal,
             epochs: epochs.max(1),
-            grows: true,
+            frozen: false,
             tally: Tally::new(),
             crew,
         }
     }
 
-    /// The same relay, to whose tree no nodes can be appended and whose procedures can't be replaced: there is one engine as long as its
-    /// epochs last.
-    pub fn that_does_not_grow(self) -> Relay<K, J> {
+    /// The same relay, where only the control may register and replace procedures, append nodes, and seal. Other lines that ask for that
+    /// get 1101.
+    pub fn that_is_frozen(self) -> Relay<K, J>
+        ensures { result.frozen ≡ true }
+    {
         Relay {
-            grows: false,
+            frozen: true,
             ..self
         }
     }
@@ -92,7 +101,7 @@ impl<K: Keeper + Texts, J: Journal> Relay<K, J> {
             keeper,
             journal,
             epochs: _,
-            grows: _,
+            frozen: _,
             tally: _,
             crew: _,
         } = self;
@@ -129,6 +138,11 @@ impl<K: Keeper + Texts, J: Journal> Relay<K, J> {
         }
     }
 
+    /// Whether a browser was there and nobody was told. It answers so once.
+    pub(crate) fn tells_of_browser(&self) -> bool {
+        self.tally.tells_of_browser()
+    }
+
     /// Whether what the engines do is stored.
     pub fn stores(&self) -> bool {
         self.journal.stores()
@@ -161,7 +175,7 @@ impl<K: Keeper + Texts, J: Journal> Relay<K, J> {
         request: &LineRequest,
     ) -> Result<Done, Pause>
         requires { IsAsked (line_view request.now) }
-        ensures came { IfOk result (λ d. (own : List Did) × CameOf (record { seals = true; grows = false; reads = ReadBy (record { has = K.has; lacks = K.lacks }); keys = keying (J.is_storing self.now.journal) }) (line_view request.now) own d.outcome × HasKept own) }
+        ensures came { IfOk result (λ d. (own : List Did) × CameOf (record { seals = true; grows = false; reads = ReadBy (record { has = K.has; lacks = K.lacks }); keys = keying (J.is_storing self.now.journal); frozen = false }) (line_view request.now) own d.outcome × HasKept own) }
         ensures later { IfOk result (λ d. (place.old ≤ d.base) × (place.new ≡ d.base)) }
         ensures same { OnErr result (place.new ≡ place.old) }
     {
@@ -203,7 +217,7 @@ impl<K: Keeper + Texts, J: Journal> Relay<K, J> {
         request: &LineRequest,
     ) -> Option<Done>
         requires { IsAsked (line_view request.now) }
-        ensures came { IfSome result (λ d. (own : List Did) × CameOf (record { seals = true; grows = false; reads = ReadBy (record { has = K.has; lacks = K.lacks }); keys = keying (J.is_storing self.now.journal) }) (line_view request.now) own d.outcome × HasKept own) }
+        ensures came { IfSome result (λ d. (own : List Did) × CameOf (record { seals = true; grows = false; reads = ReadBy (record { has = K.has; lacks = K.lacks }); keys = keying (J.is_storing self.now.journal); frozen = false }) (line_view request.now) own d.outcome × HasKept own) }
         ensures later { IfSome result (λ d. (place.old ≤ d.base) × (place.new ≡ d.base)) }
         ensures same { result ≡ None → place.new ≡ place.old }
     {
@@ -334,7 +348,7 @@ impl<K: Keeper + Texts, J: Journal> Service for Relay<K, J> {
 
     ghost gains = { GoesOnFrom };
 
-    ghost ways = { λ r. record { seals = true; grows = r.grows; reads = ReadBy (record { has = K.has; lacks = K.lacks }); keys = keying (J.is_storing r.journal) } };
+    ghost ways = { λ r. record { seals = true; grows = true; reads = ReadBy (record { has = K.has; lacks = K.lacks }); keys = keying (J.is_storing r.journal); frozen = r.frozen } };
 
     ghost may_seal = { λ base n. base ≤ n };
 
@@ -345,9 +359,6 @@ impl<K: Keeper + Texts, J: Journal> Service for Relay<K, J> {
         visitor: &mut Place,
         request: &LineRequest,
     ) -> Option<Done> {
-        if !self.grows {
-            return self.perform_by_engine(rt, alloc, visitor, request);
-        }
         match request {
             LineRequest::Grow(parents) => {
                 let grown = self.grow(rt, alloc, parents)?;
@@ -367,6 +378,14 @@ impl<K: Keeper + Texts, J: Journal> Service for Relay<K, J> {
         }
     }
 
+    fn is_frozen(&self) -> bool {
+        self.frozen
+    }
+
+    fn meets_browser(&self) {
+        self.tally.meet_browser();
+    }
+
     ghost gains_none = { goes_on_nothing };
 
     ghost gains_more = { goes_on_both };
@@ -374,9 +393,9 @@ impl<K: Keeper + Texts, J: Journal> Service for Relay<K, J> {
     ghost seals_on = { seals_from };
 }
 
-/// A relay counts what it answers, and its journal copies what it stores.
+/// A relay counts what it answers, does what an operator asks for as what a client asks for, and its journal copies what it stores.
 impl<K: Keeper + Texts, J: Journal> Reporter for Relay<K, J> {
-    fn status(&self, rt: &impl Wait, connections: u64) -> Option<Status> {
+    fn status(&self, rt: &impl Wait, connections: u64, places: u64) -> Option<Status> {
         let stage = self.stage.read(rt);
         Some(Status {
             epoch: stage.epoch(rt),
@@ -384,8 +403,32 @@ impl<K: Keeper + Texts, J: Journal> Reporter for Relay<K, J> {
             calls: self.tally.calls(),
             connections,
             nodes: u64::from(stage.nodes),
-            procedures: self.tally.procedures(),
+            procedures: stage.procedures(rt),
+            refusals: self.tally.refusals(),
+            places,
+            browsers: self.tally.browsers(),
         })
+    }
+
+    fn obey<R: Threads + Wait + Sync>(
+        &self,
+        rt: &R,
+        alloc: Global,
+        request: &LineRequest,
+        peer: &Stream,
+    ) -> bool {
+        let Ok(mut outbox) = Outbox::new(alloc) else {
+            say(peer, NO_MEMORY);
+            return true;
+        };
+        let mut place = Place::new();
+        let mut sink = StoredSink::new(rt, alloc, self, SocketSink::new(peer));
+        match self.perform(rt, alloc, &mut place, request) {
+            Some(done) => put_outcome(&mut outbox, &mut sink, &done),
+            None => put_error_line(&mut outbox, &mut sink, &[990]),
+        }
+        outbox.flush(&mut sink);
+        !sink.has_failed()
     }
 
     fn copy(&self, rt: &impl Wait, alloc: Global, name: &str) -> Result<(), CopyRefusal> {

@@ -5,7 +5,7 @@ ghost use Rattle.tl_workers.specs.declared.batch.TheConstants.{MAX_REQUESTS, MAX
 ghost use Rattle.serde_json.specs.View.{view};
 ghost use Rattle.tl_json.specs.Requests.{request_form};
 ghost use Rattle.tl_tree.specs.Reading.{integer_of, integers_of};
-ghost use Rattle.tl_server.specs.Requests.{line_view, text_at, has_members, register_text_of, register_of, replace_of, request_at, key_of, call_once_of, call_of, workers_of, batch_of, grow_of, request_with, line_request_of, IsRequest, IsLineFault};
+ghost use Rattle.tl_server.specs.Requests.{line_view, is_barred, text_at, has_members, register_text_of, register_of, replace_of, request_at, key_of, call_once_of, call_of, workers_of, batch_of, grow_of, request_with, line_request_of, IsRequest, IsLineFault};
 
 use crate::batch::BatchRequest;
 use crate::fault::LineFault;
@@ -50,6 +50,23 @@ pub enum LineRequest {
     Seal,
     /// To close the connection.
     Close,
+}
+
+/// Whether a server that may be frozen refuses the request.
+pub(crate) fn is_barred(frozen: bool, request: &LineRequest) -> bool
+    ensures { result ≡ is_barred frozen (line_view request.now) }
+{
+    match request {
+        LineRequest::Register(_)
+        | LineRequest::RegisterText(_)
+        | LineRequest::Replace(_)
+        | LineRequest::Grow(_)
+        | LineRequest::Seal => frozen,
+        LineRequest::Call(_)
+        | LineRequest::CallOnce(_)
+        | LineRequest::Batch(_)
+        | LineRequest::Close => false,
+    }
 }
 
 // Whether the value is an object with `count` members.

@@ -27,7 +27,7 @@ pub trait Service {
     ghost gains: { Self.Visitor → Self.Visitor → List Did → Type 0 };
 
     // What it can do: whether its engines seal their epochs by themselves, whether nodes can be appended to its tree and procedures
-    // replaced, who reads texts of procedures, and what is done about keys.
+    // replaced, who reads texts of procedures, what is done about keys, and whether it is frozen.
     ghost ways: { Self → Ways };
 
     // Which epochs may be sealed from this moment on, by their numbers.
@@ -47,6 +47,13 @@ pub trait Service {
         ensures done { IfSome result (λ d. (own : List Did) × CameOf (ways self.now) (line_view request.now) own d.outcome × gains visitor.old visitor.new (map (later_did d.base) own)) }
         ensures sealable { IfSome result (λ d. (n : ℕ) → IsSealable n → may_seal visitor.old (d.base + n)) }
         ensures none { result ≡ None → gains visitor.old visitor.new [] };
+
+    /// Whether requests are refused by which a client rules: those that register or replace procedures, append nodes, or seal.
+    fn is_frozen(&self) -> bool
+        ensures { result ≡ (ways self.now).frozen };
+
+    /// Notes that a browser sent a line.
+    fn meets_browser(&self);
 
     ghost gains_none: { (a : Self.Visitor) → gains a a [] };
 
@@ -80,7 +87,7 @@ pub(crate) fn act<R: Threads + Wait + Sync>(
     request: &LineRequest,
 ) -> RequestOutcome
     requires { IsAsked (line_view request.now) }
-    ensures { (own : List Did) × Gains session.old session.new own × CameOf (record { seals = engine.now.seals; grows = false; reads = NoTexts; keys = KnowsNoKeys }) (line_view request.now) own result }
+    ensures { (own : List Did) × Gains session.old session.new own × CameOf (record { seals = engine.now.seals; grows = false; reads = NoTexts; keys = KnowsNoKeys; frozen = false }) (line_view request.now) own result }
 {
     match request {
         LineRequest::Register(written) => {
@@ -114,7 +121,7 @@ impl Service for Engine {
 
     ghost gains = { Gains };
 
-    ghost ways = { λ e. record { seals = e.seals; grows = false; reads = NoTexts; keys = KnowsNoKeys } };
+    ghost ways = { λ e. record { seals = e.seals; grows = false; reads = NoTexts; keys = KnowsNoKeys; frozen = false } };
 
     ghost may_seal = { λ _ n. IsSealable n };
 
@@ -128,6 +135,13 @@ impl Service for Engine {
         let outcome = act(rt, alloc, self, visitor, request);
         Some(Done { outcome, base: 0 })
     }
+
+    fn is_frozen(&self) -> bool {
+        false
+    }
+
+    // Who runs the engine isn't told.
+    fn meets_browser(&self) {}
 
     ghost gains_none = { gains_nothing };
 

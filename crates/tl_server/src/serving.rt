@@ -28,13 +28,13 @@ fn settle<K: Sink>(reader: &Reader, outbox: &mut Outbox, sink: &mut K)
     outbox.flush(sink);
 }
 
-/// Reads lines from the source up to one that closes the connection, or to the end of input, and writes an answer to each
+/// Reads lines from the source up to one that ends the connection, or to the end of input, and writes an answer to each
 /// to the sink, in order. Returns how many lines were answered.
 ///
 /// An answer is a line of JSON: `{"bounds":{"emits":e,"locks":l,"steps":s}}` for a procedure that was registered,
 /// `{"call":c,"reply":[..]}` for a call, with its epoch from the second one on, `{"batch":[..]}` for many calls, with the
 /// result of each, `{"sealed":e}`, `{"grown":n}`, `{"closed":true}`, and `{"error":[numbers]}` for a line that is no
-/// request, or for a refusal. If memory is refused while a line is read, its
+/// request, or for a refusal. The first line that only a browser sends is answered by 901 and ends the connection. If memory is refused while a line is read, its
 /// answer is `{"error":[990]}`, nothing was done, and the next line is read. Answers take no memory.
 ///
 /// 911 if the source fails: each line that was read whole was answered. 912 if the sink fails: it has a beginning of the
@@ -88,6 +88,7 @@ pub fn serve<R: Threads + Wait + Sync, S: Source, K: Sink, V: Service>(
                     visitor,
                     &mut outbox,
                     sink,
+                    count == 0,
                     reader.line(),
                     &mut scratch,
                 );
@@ -105,6 +106,7 @@ pub fn serve<R: Threads + Wait + Sync, S: Source, K: Sink, V: Service>(
                     visitor,
                     &mut outbox,
                     sink,
+                    count == 0,
                     reader.line(),
                     &mut scratch,
                 ) {

@@ -2,8 +2,11 @@
 
 use crate::device::{Failure, Sink, Source};
 use crate::stream::Stream;
-use std::io::{Read, Write};
+use std::io::{ErrorKind, Read, Write};
 use std::sync::atomic::{AtomicBool, Ordering};
+
+// How often a read is tried that a signal has interrupted, as one that lets a stopped process go on.
+const TRIES: u32 = 1_000;
 
 /// The requests of a connection. Contracts know nothing of its bytes.
 #[derive(Drop)]
@@ -47,9 +50,14 @@ impl<'a> Source for SocketSource<'a> {
                 return Ok(0);
             }
         }
-        let mut stream = self.stream;
-        if let Ok(count) = stream.read(buffer) {
-            return Ok(count);
+        for _ in 0..TRIES {
+            let mut stream = self.stream;
+            match stream.read(buffer) {
+                Ok(count) => return Ok(count),
+                Err(fault) => if fault.kind() != ErrorKind::Interrupted {
+                    break;
+                },
+            }
         }
         // If the count can't rise, the input ends instead. No run counts this far.
         let Some(failed) = self.failed.checked_add(1) else {

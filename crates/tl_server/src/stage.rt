@@ -70,7 +70,7 @@ fn act_or_read<K: Texts, J: Journal, R: Threads + Wait + Sync>(
     request: &LineRequest,
 ) -> RequestOutcome
     requires { IsAsked (line_view request.now) }
-    ensures { (own : List Did) × Gains session.old session.new own × CameOf (record { seals = engine.now.seals; grows = false; reads = ReadBy (record { has = K.has; lacks = K.lacks }); keys = keying (J.is_storing journal.now) }) (line_view request.now) own result }
+    ensures { (own : List Did) × Gains session.old session.new own × CameOf (record { seals = engine.now.seals; grows = false; reads = ReadBy (record { has = K.has; lacks = K.lacks }); keys = keying (J.is_storing journal.now); frozen = false }) (line_view request.now) own result }
 {
     match request {
         LineRequest::RegisterText(text) => {
@@ -91,7 +91,7 @@ fn act_kept<K: Texts, J: Journal, R: Threads + Wait + Sync>(
     request: &LineRequest,
 ) -> RequestOutcome
     requires { IsAsked (line_view request.now) }
-    ensures { (own : List Did) × CameOf (record { seals = engine.now.seals; grows = false; reads = ReadBy (record { has = K.has; lacks = K.lacks }); keys = keying (J.is_storing journal.now) }) (line_view request.now) own result × HasKept own }
+    ensures { (own : List Did) × CameOf (record { seals = engine.now.seals; grows = false; reads = ReadBy (record { has = K.has; lacks = K.lacks }); keys = keying (J.is_storing journal.now); frozen = false }) (line_view request.now) own result × HasKept own }
 {
     let outcome = act_or_read::<K, J, R>(rt, alloc, engine, journal, session, request);
     session.lemma_was_session();
@@ -149,7 +149,7 @@ impl Stage {
         request: &LineRequest,
     ) -> Result<Done, Pause>
         requires { IsAsked (line_view request.now) }
-        ensures came { IfOk result (λ d. (own : List Did) × CameOf (record { seals = true; grows = false; reads = ReadBy (record { has = K.has; lacks = K.lacks }); keys = keying (J.is_storing journal.now) }) (line_view request.now) own d.outcome × HasKept own) }
+        ensures came { IfOk result (λ d. (own : List Did) × CameOf (record { seals = true; grows = false; reads = ReadBy (record { has = K.has; lacks = K.lacks }); keys = keying (J.is_storing journal.now); frozen = false }) (line_view request.now) own d.outcome × HasKept own) }
         ensures later { IfOk result (λ d. (place.old ≤ d.base) × (place.new ≡ d.base)) }
         ensures same { OnErr result (place.new ≡ place.old) }
     {
@@ -254,6 +254,14 @@ impl Stage {
             None => 0,
         };
         u64::from(self.base) + u64::from(own)
+    }
+
+    // How many procedures the engine has; none, if no engine is open.
+    pub(crate) fn procedures(&self, rt: &impl Wait) -> u64 {
+        match &self.engine {
+            Some(engine) => engine.look(rt, |table| table.core().procedures().len() as u64),
+            None => 0,
+        }
     }
 }
 

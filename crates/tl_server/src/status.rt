@@ -1,18 +1,25 @@
 // What a server says of itself.
 
 ghost use Rattle.std.specs.Prelude.{◌≡◌};
+ghost use Rattle.std.specs.Thread.{IsSync};
+ghost use Rattle.tl_server.specs.Requests.{line_view};
+ghost use Rattle.tl_server.specs.Outcomes.{IsAsked};
 ghost use Rattle.tl_server.specs.Answers.{line_text};
-ghost use Rattle.tl_server.specs.Reports.{receipts_of, registered_of, status_text};
+ghost use Rattle.tl_server.specs.Reports.{receipts_of, refusals_of, status_text};
 ghost use Rattle.tl_server.specs.Sending.{Puts};
 
 use crate::answer::put_number;
+use crate::control::{NO_REQUEST, say};
 use crate::copying::CopyRefusal;
 use crate::device::Sink;
 use crate::outbox::Outbox;
 use crate::outcome::RequestOutcome;
+use crate::request::LineRequest;
+use crate::stream::Stream;
 use std::alloc::Global;
 use std::sync::Wait;
-use std::sync::atomic::{AtomicU64, Ordering};
+use std::sync::atomic::{AtomicBool, AtomicU64, Ordering};
+use std::thread::Threads;
 use tl_workers::Engine;
 
 /// How far a server that lasts is.
@@ -28,23 +35,51 @@ pub struct Status {
     pub connections: u64,
     /// How many nodes the tree has.
     pub nodes: u64,
-    /// How many procedures are registered.
+    /// How many procedures there are, however they came.
     pub procedures: u64,
+    /// How many requests and calls were refused since the start.
+    pub refusals: u64,
+    /// How many connections may be open at once.
+    pub places: u64,
+    /// How many connections a browser opened since the start. Nothing of what they sent was done.
+    pub browsers: u64,
 }
 
-/// Who says how far a server is, and copies what it stores.
+/// Who says how far a server is, copies what it stores, and does what an operator asks for.
 pub trait Reporter {
-    /// How far it is, with so many connections open. `None` if it doesn't say.
-    fn status(&self, rt: &impl Wait, connections: u64) -> Option<Status>;
+    /// How far it is, with so many connections open of as many as may be. `None` if it doesn't say.
+    fn status(&self, rt: &impl Wait, connections: u64, places: u64) -> Option<Status>;
+
+    /// Does what an operator asks for, also where it is frozen, and answers the peer once that is stored. False if it isn't and won't be.
+    fn obey<R: Threads + Wait + Sync>(
+        &self,
+        rt: &R,
+        alloc: Global,
+        request: &LineRequest,
+        peer: &Stream,
+    ) -> bool
+        requires asked { IsAsked (line_view request.now) }
+        requires shared { IsSync R.row };
 
     /// Copies what is stored, as `Journal::copy` does.
     fn copy(&self, rt: &impl Wait, alloc: Global, name: &str) -> Result<(), CopyRefusal>;
 }
 
-/// An engine alone doesn't say, and stores nothing.
+/// An engine alone doesn't say, stores nothing, and has no operator.
 impl Reporter for Engine {
-    fn status(&self, _rt: &impl Wait, _connections: u64) -> Option<Status> {
+    fn status(&self, _rt: &impl Wait, _connections: u64, _places: u64) -> Option<Status> {
         None
+    }
+
+    fn obey<R: Threads + Wait + Sync>(
+        &self,
+        _rt: &R,
+        _alloc: Global,
+        _request: &LineRequest,
+        peer: &Stream,
+    ) -> bool {
+        say(peer, NO_REQUEST);
+        true
     }
 
     fn copy(&self, _rt: &impl Wait, _alloc: Global, _name: &str) -> Result<(), CopyRefusal> {
@@ -73,22 +108,23 @@ fn receipts(outcome: &RequestOutcome) -> u64
     }
 }
 
-// How many procedures were registered.
-fn registered(outcome: &RequestOutcome) -> u64
-    ensures { result ≡ registered_of outcome.now }
+// How many answers are errors.
+fn refusals(outcome: &RequestOutcome) -> u64
+    ensures { result ≡ refusals_of outcome.now }
 {
     match outcome {
-        RequestOutcome::Registered(answer) => u64::from(answer.is_ok()),
-        RequestOutcome::RegisteredAll(Ok(all)) => all.len() as u64,
-        RequestOutcome::RegisteredAll(Err(_))
-        | RequestOutcome::Replaced(_)
-        | RequestOutcome::Called(_)
-        | RequestOutcome::Recalled(_)
-        | RequestOutcome::KeyRefused(_)
-        | RequestOutcome::Batched(_)
-        | RequestOutcome::Sealed(_)
-        | RequestOutcome::Grown(_)
-        | RequestOutcome::Unknown => 0,
+        RequestOutcome::Registered(answer) => u64::from(answer.is_err()),
+        RequestOutcome::RegisteredAll(answer) => u64::from(answer.is_err()),
+        RequestOutcome::Replaced(answer) => u64::from(answer.is_err()),
+        RequestOutcome::Called(answer) => u64::from(answer.is_err()),
+        RequestOutcome::Sealed(answer) => u64::from(answer.is_err()),
+        RequestOutcome::Grown(answer) => u64::from(answer.is_err()),
+        RequestOutcome::Batched(Ok(answers)) => {
+            answers.iter().filter(|answer| answer.is_err()).count() as u64
+        }
+        RequestOutcome::Batched(Err(_)) | RequestOutcome::KeyRefused(_) | RequestOutcome::Unknown =>
+            1,
+        RequestOutcome::Recalled(_) => 0,
     }
 }
 
@@ -96,7 +132,10 @@ fn registered(outcome: &RequestOutcome) -> u64
 #[derive(Drop)]
 pub(crate) struct Tally {
     calls: AtomicU64,
-    procedures: AtomicU64,
+    refusals: AtomicU64,
+    browsers: AtomicU64,
+    // Whether it was told that a browser was there.
+    told: AtomicBool,
 }
 
 impl Tally {
@@ -104,15 +143,16 @@ impl Tally {
     pub(crate) fn new() -> Tally {
         Tally {
             calls: AtomicU64::new(0),
-            procedures: AtomicU64::new(0),
+            refusals: AtomicU64::new(0),
+            browsers: AtomicU64::new(0),
+            told: AtomicBool::new(false),
         }
     }
 
     /// Counts what came of a request.
     pub(crate) fn count(&self, outcome: &RequestOutcome) {
         self.calls.fetch_add(receipts(outcome), Ordering::SeqCst);
-        self.procedures
-            .fetch_add(registered(outcome), Ordering::SeqCst);
+        self.refusals.fetch_add(refusals(outcome), Ordering::SeqCst);
     }
 
     /// How many calls were answered with a receipt.
@@ -120,9 +160,24 @@ impl Tally {
         self.calls.load(Ordering::SeqCst)
     }
 
-    /// How many procedures were registered.
-    pub(crate) fn procedures(&self) -> u64 {
-        self.procedures.load(Ordering::SeqCst)
+    /// How many requests and calls were refused.
+    pub(crate) fn refusals(&self) -> u64 {
+        self.refusals.load(Ordering::SeqCst)
+    }
+
+    /// Counts a connection that a browser opened.
+    pub(crate) fn meet_browser(&self) {
+        self.browsers.fetch_add(1, Ordering::SeqCst);
+    }
+
+    /// How many connections a browser opened.
+    pub(crate) fn browsers(&self) -> u64 {
+        self.browsers.load(Ordering::SeqCst)
+    }
+
+    /// Whether a browser was there and nobody was told. It answers so once.
+    pub(crate) fn tells_of_browser(&self) -> bool {
+        self.browsers() > 0 && !self.told.swap(true, Ordering::SeqCst)
     }
 }
 
@@ -142,6 +197,12 @@ pub(crate) fn put_status_line<K: Sink>(outbox: &mut Outbox, sink: &mut K, status
     put_number(outbox, sink, status.nodes);
     outbox.put(sink, b",\"procedures\":");
     put_number(outbox, sink, status.procedures);
+    outbox.put(sink, b",\"refusals\":");
+    put_number(outbox, sink, status.refusals);
+    outbox.put(sink, b",\"places\":");
+    put_number(outbox, sink, status.places);
+    outbox.put(sink, b",\"browsers\":");
+    put_number(outbox, sink, status.browsers);
     outbox.put(sink, b"}");
     outbox.put(sink, b"\n");
 }

@@ -2,3 +2,4 @@ pub mod RememberingLemmas
 mod ReopeningLemmas
 mod EmptyLemmas
 mod BeginningLemmas
+pub mod KeyedLemmas

@@ -1,5 +1,5 @@
 -- What is remembered of a store's calls.
-use Rattle.std.proofs.Common.{◌≡◌, ◌∙◌, ℕ, ℤ, List, [], ◌∷◌, length, map, take, drop, Some, option_map, string_bytes, sym, ap, subst}
+use Rattle.std.proofs.Common.{◌≡◌, ◌∙◌, ℕ, ℤ, List, [], ◌∷◌, map, take, drop, Some, option_map, string_bytes, sym, ap, subst}
 use Rattle.std.specs.Prelude.{All, Contains}
 use Rattle.std.proofs.lemmas.List.Elements.{All-nil, All-cons, All-head, All-tail, All-take, All-drop, All-contains_itself}
 use Rattle.sqlite_value.specs.Order.{Row}
@@ -37,7 +37,7 @@ of_map P f [] all = All-nil (λ x. P (f x))
 of_map P f (x ∷ xs) all = All-cons (λ x. P (f x)) x xs (All-head P (f x) (map f xs) all) (of_map P f xs (All-tail P (f x) (map f xs) all))
 
 -- what was read from any row on is among the rows
-pub are_among : {X : Type 0} (f : X → Row) (items : List X) (columns : List Row) (first : ℕ) → map f items ≡ take (length items) (drop first columns) → All (λ item. Contains columns (f item)) items
-are_among f items columns first is =
+pub are_among : {X : Type 0} (f : X → Row) (items : List X) (columns : List Row) (first many : ℕ) → map f items ≡ take many (drop first columns) → All (λ item. Contains columns (f item)) items
+are_among f items columns first many is =
     of_map (Contains columns) f items
-    (subst (All (Contains columns)) (sym is) (All-take (Contains columns) (length items) (drop first columns) (All-drop (Contains columns) first columns (All-contains_itself columns))))
+    (subst (All (Contains columns)) (sym is) (All-take (Contains columns) many (drop first columns) (All-drop (Contains columns) first columns (All-contains_itself columns))))

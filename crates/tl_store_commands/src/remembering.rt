@@ -1,14 +1,18 @@
 // What came of a store's calls that had a key.
 
-ghost use Rattle.std.specs.Prelude.{◌≡◌, ◌≤◌, List, All, Contains, None, Some, false, length, option_map, string_bytes, IsTrue, IfOk, IfSome, OnOk};
+ghost use Rattle.std.specs.Prelude.{◌≡◌, ◌≤◌, ◌<◌, ◌+◌, ◌-◌, ◌↔◌, ℕ, suc, List, [], ◌∷◌, All, Contains, None, Some, false, length, map, take, drop, option_map, string_bytes, IsTrue, IfOk, IfSome, IfNone, OnOk};
 ghost use Rattle.sqlite_trees.specs.View.{IsClean, KeepsSchema, doubt};
 ghost use Rattle.sqlite_value.specs.Order.{Row as Columns};
-ghost use Rattle.tl_ledger.specs.declared.schema.TheConstants.{CALL, REPLY};
+ghost use Rattle.tl_keys.specs.declared.index.TheConstants.{CAPACITY};
+ghost use Rattle.tl_ledger.specs.declared.rows.CallRow.{CallRow as Call};
+ghost use Rattle.tl_ledger.specs.declared.rows.ReplyRow.{ReplyRow as Reply};
+ghost use Rattle.tl_ledger.specs.declared.schema.TheConstants.{CALL, REPLY, SEAL as SEALS};
 ghost use Rattle.tl_ledger.specs.Contents.{Contents, Holds, AreTables, OnlyReads};
-ghost use Rattle.tl_ledger.specs.News.{IsMarked, call_columns, reply_columns};
+ghost use Rattle.tl_ledger.specs.News.{IsMarked, call_columns, reply_columns, seal_columns};
 ghost use Rattle.tl_ledger.specs.Rows.{rows_from};
-ghost use Rattle.tl_keys.specs.Keys.{recall, AllUnder};
-ghost use Rattle.tl_store_commands.specs.Remembering.{IsReplyTo, IsStoredUnder};
+ghost use Rattle.tl_keys.specs.Keys.{recall, AllUnder, Lasts};
+ghost use Rattle.tl_store_commands.specs.Remembering.{IsReplyTo, IsStoredUnder, HasKey, keyed, HoldsOn, AreFound, Began, FindsMore, FindsLast};
+ghost use Rattle.tl_store_commands.specs.declared.remembering.TheConstants.{RECALLED as LATELY};
 
 use sqlite_trees::store::{Shape, Store};
 use std::alloc::Global;
@@ -27,14 +31,15 @@ const OPEN: usize = 64;
 
 // Whether it is the reply to that call.
 fn is_reply_to(call: &CallRow, reply: &ReplyRow) -> bool
-    ensures { IsTrue result → IsReplyTo call.now reply.now }
+    ensures { IsTrue result ↔ IsReplyTo call.now reply.now }
 {
     reply.epoch == call.epoch && reply.call == call.number
 }
 
 // The reply to that call.
 fn reply_among<'r>(replies: &'r [ReplyRow], call: &CallRow) -> Option<&'r ReplyRow>
-    ensures { IfSome result (λ reply. IsReplyTo call.now reply.now × Contains replies.now reply.now) }
+    ensures some { IfSome result (λ reply. IsReplyTo call.now reply.now × Contains replies.now reply.now) }
+    ensures none { IfNone result ((reply : Reply) → Contains replies.now reply → IsReplyTo call.now reply → ⊥) }
 {
     for reply in replies {
         if is_reply_to(call, reply) {
@@ -46,7 +51,8 @@ fn reply_among<'r>(replies: &'r [ReplyRow], call: &CallRow) -> Option<&'r ReplyR
 
 // The reply to that call, which probably stands behind that place.
 fn reply_to<'r>(replies: &'r [ReplyRow], place: usize, call: &CallRow) -> Option<&'r ReplyRow>
-    ensures { IfSome result (λ reply. IsReplyTo call.now reply.now × Contains replies.now reply.now) }
+    ensures some { IfSome result (λ reply. IsReplyTo call.now reply.now × Contains replies.now reply.now) }
+    ensures none { IfNone result ((reply : Reply) → Contains replies.now reply → IsReplyTo call.now reply → ⊥) }
 {
     match reply_among(&replies[place.min(replies.len())..], call) {
         Some(reply) => Some(reply),
@@ -63,8 +69,10 @@ fn remember_call(
     reply: &ReplyRow,
 ) -> Result<(), StoreFault>
     requires { IsReplyTo call.now reply.now }
-    ensures { OnOk result ((c : Contents) → Contains (c CALL) (call_columns call.now) → Contains (c REPLY) (reply_columns reply.now)
+    ensures stored { OnOk result ((c : Contents) → Contains (c CALL) (call_columns call.now) → Contains (c REPLY) (reply_columns reply.now)
         → AllUnder (IsStoredUnder c) index.old → AllUnder (IsStoredUnder c) index.new) }
+    ensures held { OnOk result (HoldsOn (call.now ∷ []) index.old index.new) }
+    ensures here { OnOk result ((key : List ℕ) → HasKey call.now key → Lasts index.new key CAPACITY) }
 {
     let Some(key) = &call.key else {
         return Ok(());
@@ -85,8 +93,11 @@ fn remember_one(
     replies: &[ReplyRow],
     place: usize,
 ) -> Result<(), StoreFault>
-    ensures { OnOk result ((c : Contents) → Contains (c CALL) (call_columns call.now) → All (λ reply. Contains (c REPLY) (reply_columns reply)) replies.now
-        → AllUnder (IsStoredUnder c) index.old → AllUnder (IsStoredUnder c) index.new) }
+    ensures stored { OnOk result ((c : Contents) → Contains (c CALL) (call_columns call.now)
+        → All (λ reply. Contains (c REPLY) (reply_columns reply)) replies.now → AllUnder (IsStoredUnder c) index.old → AllUnder (IsStoredUnder c) index.new) }
+    ensures held { OnOk result (HoldsOn (call.now ∷ []) index.old index.new) }
+    ensures here { OnOk result ((key : List ℕ) (reply : Reply) → HasKey call.now key → Contains replies.now reply → IsReplyTo call.now reply
+        → Lasts index.new key CAPACITY) }
 {
     match reply_to(replies, place, call) {
         Some(reply) => remember_call(alloc, index, call, reply),
@@ -101,8 +112,10 @@ fn remember_calls(
     calls: &[CallRow],
     replies: &[ReplyRow],
 ) -> Result<(), StoreFault>
-    ensures { OnOk result ((c : Contents) → All (λ call. Contains (c CALL) (call_columns call)) calls.now → All (λ reply. Contains (c REPLY) (reply_columns reply)) replies.now
-        → AllUnder (IsStoredUnder c) index.old → AllUnder (IsStoredUnder c) index.new) }
+    ensures stored { OnOk result ((c : Contents) → All (λ call. Contains (c CALL) (call_columns call)) calls.now
+        → All (λ reply. Contains (c REPLY) (reply_columns reply)) replies.now → AllUnder (IsStoredUnder c) index.old → AllUnder (IsStoredUnder c) index.new) }
+    ensures held { OnOk result (HoldsOn calls.now index.old index.new) }
+    ensures here { OnOk result (AreFound calls.now replies.now index.new) }
 {
     for number in 0..calls.len() {
         let place = number.saturating_sub(OPEN);
@@ -122,7 +135,7 @@ fn read_part<S: Store, T: ReadEntry + Drop>(
     requires table { IsClean (S.Store.view store.old) → (S.Store.view store.old).shape table ≡ Shape.Table }
     requires order { first ≤ last }
     ensures rows { IfOk result (λ items. IsClean (S.Store.view store.new) → (columns : List Columns) → (S.Store.view store.old).trees table ≡ rows_from 0 columns
-        → last ≤ length columns → All (λ item. Contains columns (T.Entry.columns item)) items.items) }
+        → last ≤ length columns → map T.Entry.columns items.items ≡ take (last - first) (drop first columns)) }
     ensures reads { OnOk result (IsClean (S.Store.view store.new) → OnlyReads (S.Store.view store.old) (S.Store.view store.new)) }
     ensures schema { KeepsSchema (S.Store.view store.old) (S.Store.view store.new) }
     ensures clean { doubt (S.Store.view store.old).is_clean ≤ doubt (S.Store.view store.new).is_clean }
@@ -138,7 +151,9 @@ struct Counts {
 }
 
 // How many there were when this epoch began; none before the first seal. `None` if there is no such epoch, or if the seal before it has no such counts.
-fn counts_before(seals: &[SealRow], epoch: usize) -> Option<Counts> {
+fn counts_before(seals: &[SealRow], epoch: usize) -> Option<Counts>
+    ensures { IfSome result (λ n. Began (map seal_columns seals.now) epoch n.calls n.replies) }
+{
     if epoch == 0 {
         return Some(Counts {
             calls: 0,
@@ -154,7 +169,10 @@ fn counts_before(seals: &[SealRow], epoch: usize) -> Option<Counts> {
 
 // The counts at both ends of an epoch. `None` if there are no such rows.
 fn counts_of(marks: &Marks, seals: &[SealRow], epoch: usize) -> Option<(Counts, Counts)>
-    ensures { IfSome result (λ r. (r.0.calls ≤ r.1.calls) × (r.0.replies ≤ r.1.replies) × (r.1.calls ≤ marks.now.calls) × (r.1.replies ≤ marks.now.replies)) }
+    ensures begins { IfSome result (λ r. Began (map seal_columns seals.now) epoch r.0.calls r.0.replies) }
+    ensures ends { epoch < length seals.now → IfSome result (λ r. Began (map seal_columns seals.now) (suc epoch) r.1.calls r.1.replies) }
+    ensures order { IfSome result (λ r. (r.0.calls ≤ r.1.calls) × (r.0.replies ≤ r.1.replies)
+        × (r.1.calls ≤ marks.now.calls) × (r.1.replies ≤ marks.now.replies)) }
 {
     let first = counts_before(seals, epoch)?;
     let last = counts_before(seals, epoch.saturating_add(1))?;
@@ -163,6 +181,18 @@ fn counts_of(marks: &Marks, seals: &[SealRow], epoch: usize) -> Option<(Counts, 
         && last.calls <= marks.calls
         && last.replies <= marks.replies;
     if is_right { Some((first, last)) } else { None }
+}
+
+// Whether none of these calls had a key.
+fn have_no_keys(calls: &[CallRow]) -> bool
+    ensures { IsTrue result → keyed calls.now ≡ 0 }
+{
+    for number in 0..calls.len() {
+        if calls[number].key.is_some() {
+            return false;
+        }
+    }
+    true
 }
 
 // Remembers what came of the calls of an epoch that had a key.
@@ -174,9 +204,12 @@ fn remember_epoch<S: Store>(
     epoch: usize,
     index: &mut KeyIndex,
 ) -> Result<(), StoreFault>
-    requires { IsClean (S.Store.view store.old) → AreTables (S.Store.view store.old) }
+    requires tables { IsClean (S.Store.view store.old) → AreTables (S.Store.view store.old) }
+    requires epoch { epoch < length seals.now }
     ensures keys { OnOk result (IsClean (S.Store.view store.new) → (c : Contents) → Holds (S.Store.view store.old).trees c → IsMarked c marks.now
         → AllUnder (IsStoredUnder c) index.old → AllUnder (IsStoredUnder c) index.new) }
+    ensures found { OnOk result (IsClean (S.Store.view store.new) → (c : Contents) → Holds (S.Store.view store.old).trees c → IsMarked c marks.now
+        → c SEALS ≡ map seal_columns seals.now → FindsMore c epoch index.old index.new) }
     ensures reads { OnOk result (IsClean (S.Store.view store.new) → OnlyReads (S.Store.view store.old) (S.Store.view store.new)) }
     ensures schema { KeepsSchema (S.Store.view store.old) (S.Store.view store.new) }
     ensures clean { doubt (S.Store.view store.old).is_clean ≤ doubt (S.Store.view store.new).is_clean }
@@ -185,21 +218,23 @@ fn remember_epoch<S: Store>(
         return Err(StoreFault::BadRow { table: SEAL });
     };
     let calls: Vec<CallRow> = read_part(alloc, store, CALL, first.calls, last.calls)?;
-    if calls.iter().all(|call| call.key.is_none()) {
+    if have_no_keys(calls.as_slice()) {
         return Ok(());
     }
     let replies: Vec<ReplyRow> = read_part(alloc, store, REPLY, first.replies, last.replies)?;
     remember_calls(alloc, index, calls.as_slice(), replies.as_slice())
 }
 
-// The first epoch of which no call is earlier than the last ones that are looked at.
-fn first_recalled(marks: &Marks, seals: &[SealRow]) -> usize {
+// The first epoch that has one of the last calls that are looked at, or whose seal has no such counts.
+fn first_recalled(marks: &Marks, seals: &[SealRow]) -> usize
+    ensures { (epoch calls replies place : ℕ) → Began (map seal_columns seals.now) (suc epoch) calls replies → place < calls
+        → marks.now.calls ≤ place + LATELY → result ≤ epoch }
+{
     let earliest = marks.calls.saturating_sub(RECALLED);
     for epoch in 0..seals.len() {
-        if let Some(counts) = counts_before(seals, epoch) {
-            if counts.calls >= earliest {
-                return epoch;
-            }
+        match counts_before(seals, epoch + 1) {
+            Some(counts) if counts.calls <= earliest => {}
+            _ => return epoch,
         }
     }
     seals.len()
@@ -214,20 +249,24 @@ fn remember_epochs<S: Store>(
     requires { IsClean (S.Store.view store.old) → AreTables (S.Store.view store.old) }
     ensures keys { IfOk result (λ index. IsClean (S.Store.view store.new) → (c : Contents) → Holds (S.Store.view store.old).trees c → IsMarked c marks.now
         → AllUnder (IsStoredUnder c) index) }
+    ensures whole { IfOk result (λ index. IsClean (S.Store.view store.new) → (c : Contents) → Holds (S.Store.view store.old).trees c → IsMarked c marks.now
+        → FindsLast c index) }
     ensures reads { OnOk result (IsClean (S.Store.view store.new) → OnlyReads (S.Store.view store.old) (S.Store.view store.new)) }
     ensures schema { KeepsSchema (S.Store.view store.old) (S.Store.view store.new) }
     ensures clean { doubt (S.Store.view store.old).is_clean ≤ doubt (S.Store.view store.new).is_clean }
 {
     let seals: Vec<SealRow> = read_all(alloc, store, SEAL)?;
     let mut index = KeyIndex::new(alloc);
-    for epoch in first_recalled(marks, seals.as_slice())..seals.len() {
+    let first = first_recalled(marks, seals.as_slice());
+    for epoch in first..seals.len() {
         remember_epoch(alloc, store, marks, seals.as_slice(), epoch, &mut index)?;
     }
     Ok(index)
 }
 
 /// The same ledger, over a store all of whose epochs are sealed, and what came of the calls that had a key, as far as these are among the last
-/// 1,048,576 calls. 1003 and the table if a row has another form; 1011 to 1013 if the disk fails; 1090 if memory is refused.
+/// 1,048,576 calls, and fewer calls with keys came behind them than an index has places for. 1003 and the table if a row has another form; 1011 to
+/// 1013 if the disk fails; 1090 if memory is refused.
 pub fn remember_keys<S: Store + Drop>(
     alloc: Global,
     ledger: Ledger<S>,
@@ -235,6 +274,8 @@ pub fn remember_keys<S: Store + Drop>(
     requires { ledger.is_shut ≡ false }
     ensures keys { IfOk result (λ r. IsClean (S.Store.view r.0.store) → (c : Contents) → Holds (S.Store.view ledger.store).committed c → IsMarked c ledger.marks
         → AllUnder (IsStoredUnder c) r.1) }
+    ensures whole { IfOk result (λ r. IsClean (S.Store.view r.0.store) → (c : Contents) → Holds (S.Store.view ledger.store).committed c → IsMarked c ledger.marks
+        → FindsLast c r.1) }
     ensures ledger { IfOk result (λ r. (r.0.is_shut ≡ false) × (r.0.marks ≡ ledger.marks)) }
     ensures same { IfOk result (λ r. IsClean (S.Store.view r.0.store) → (S.Store.view r.0.store).committed ≡ (S.Store.view ledger.store).committed) }
     ensures clean { IfOk result (λ r. doubt (S.Store.view ledger.store).is_clean ≤ doubt (S.Store.view r.0.store).is_clean) }

@@ -5,7 +5,7 @@ use Rattle.sqlite_trees.specs.declared.error.StoreError.TheVariants as name
 use Rattle.tl_store_file.specs.declared.fault.FileFault.{FileFault}
 use Rattle.tl_store_file.specs.declared.fault.Hindrance.{Hindrance}
 use Rattle.tl_store_file.specs.declared.fault.Hindrance.TheVariants.{Permission, NoFolder, NotRegular, Journal, NoLocks, Other}
-use Rattle.tl_store_file.specs.declared.fault.FileFault.TheVariants.{Unopened, Busy, NotStore, DiskFailed, DiskFull, Damaged, Memory}
+use Rattle.tl_store_file.specs.declared.fault.FileFault.TheVariants.{Unopened, Busy, NotStore, Newer, DiskFailed, DiskFull, Damaged, Memory}
 
 -- the number of what keeps a file from being opened
 abbrev pub hindrance_number : Hindrance → ℕ
@@ -21,6 +21,7 @@ abbrev pub numbers_of : FileFault → List ℕ
 numbers_of (Unopened hindrance) = 1001 ∷ hindrance_number hindrance ∷ []
 numbers_of Busy = 1002 ∷ []
 numbers_of NotStore = 1003 ∷ 9 ∷ []
+numbers_of (Newer form) = 1018 ∷ form ∷ []
 numbers_of DiskFailed = 1011 ∷ []
 numbers_of DiskFull = 1012 ∷ []
 numbers_of Damaged = 1013 ∷ []

@@ -42,6 +42,9 @@ pub enum FileFault {
     /// 1003 and 9: it is no store of treedb, since it has other tables.
     #[error("the file is no store of treedb")]
     NotStore,
+    /// 1018, and the form of the file: a newer program made it.
+    #[error("a newer version of treedb made the store: its form is {0}")]
+    Newer(u32),
     /// 1011: the disk failed.
     #[error("the store's disk failed")]
     DiskFailed,
@@ -72,7 +75,7 @@ impl Hindrance {
 }
 
 impl FileFault {
-    /// The fault's number; behind 1001 that of what keeps the file from being opened, and 9 behind 1003: the list of tables.
+    /// The fault's number; behind 1001 that of what keeps the file from being opened, 9 behind 1003, for the list of tables, and behind 1018 the form.
     pub fn numbers(&self) -> ArrayVec<u64, 2>
         ensures { result.items ≡ numbers_of self.now }
     {
@@ -80,6 +83,7 @@ impl FileFault {
             FileFault::Unopened(hindrance) => (1001, Some(hindrance.number())),
             FileFault::Busy => (1002, None),
             FileFault::NotStore => (1003, Some(9)),
+            FileFault::Newer(form) => (1018, Some(u64::from(*form))),
             FileFault::DiskFailed => (1011, None),
             FileFault::DiskFull => (1012, None),
             FileFault::Damaged => (1013, None),

@@ -4,6 +4,8 @@
 #![tactic(auto)]
 
 mod fault;
+mod finding;
+mod form;
 mod opening;
 mod paths;
 mod reader;
@@ -11,7 +13,9 @@ mod reading;
 mod record;
 
 pub use fault::{FileFault, Hindrance};
-pub use opening::{Blank, Found, Rested, find};
+pub use finding::find;
+pub use form::FORM;
+pub use opening::{Blank, Found, Rested};
 pub use paths::{ReadFile, open, open_to_read, open_with_mode};
 pub use reader::{Content, Reader};
 pub use reading::ReadFrom;

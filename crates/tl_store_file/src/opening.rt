@@ -1,28 +1,31 @@
 // A store's file, opened or made.
 
-ghost use Rattle.std.specs.Prelude.{◌≡◌, ◌<◌, [], ℕ, IsTrue, IfOk, OnOk};
+ghost use Rattle.std.specs.Prelude.{◌≡◌, ◌<◌, ◌≤◌, [], ℕ, IsTrue, IfOk};
 ghost use Rattle.sqlite_store.specs.FileStore.{view};
 ghost use Rattle.sqlite_store.specs.Unopened.{AreUsable, wanted_by};
-ghost use Rattle.sqlite_trees.specs.View.{IsClean};
+ghost use Rattle.sqlite_trees.specs.Objects.{with_version};
+ghost use Rattle.sqlite_trees.specs.View.{IsClean, doubt};
 ghost use Rattle.tl_ledger.specs.Contents.{IsAtRest, Holds};
+ghost use Rattle.tl_store_file.specs.Form.{HasForm};
 ghost use Rattle.tl_store_file.specs.Listed.{ListsTables};
+ghost use Rattle.tl_store_file.specs.declared.form.TheConstants.{FORM};
 
 use crate::fault::FileFault;
+use crate::form::set_form;
 use sqlite_disk::{Disk, Files, Tally};
 use sqlite_pager::{Options, Pager};
-use sqlite_pool::probe_blank;
 use sqlite_store::{FileStore, OpenError, Unopened, name_fault};
 use sqlite_wal::PageSize;
 use std::alloc::Global;
 use tl_ledger::tables;
 
 /// How many bytes a page has.
-const PAGE: usize = 4096;
+pub(crate) const PAGE: usize = 4096;
 
 /// A file and its log that hold no database.
 #[derive(Drop)]
 pub struct Blank<D: Disk> {
-    unopened: Unopened<D>,
+    pub(crate) unopened: Unopened<D>,
     ghost usable: { AreUsable unopened },
     ghost lists: { ListsTables (wanted_by unopened) },
 }
@@ -44,7 +47,7 @@ pub enum Found<D: Disk> {
 }
 
 // The files, with the tables that a store has, of which nothing is known yet. They are given back if memory is refused.
-fn unopened<D: Disk + Drop>(
+pub(crate) fn unopened<D: Disk + Drop>(
     alloc: Global,
     files: Files<D>,
     seed: u64,
@@ -67,7 +70,7 @@ fn unopened<D: Disk + Drop>(
 }
 
 // Why the files aren't opened, where the tally of the disk's failures was that before.
-fn fault_of(error: OpenError, before: Tally, now: Tally) -> FileFault {
+pub(crate) fn fault_of(error: OpenError, before: Tally, now: Tally) -> FileFault {
     match error {
         OpenError::OutOfMemory => FileFault::Memory,
         OpenError::Io => FileFault::of_disk(name_fault(before, now)),
@@ -76,63 +79,52 @@ fn fault_of(error: OpenError, before: Tally, now: Tally) -> FileFault {
     }
 }
 
-// Whether the files hold no database, or one without tables: its first page was made, and then a crash came, or the disk was full.
-fn has_no_tables<D: Disk>(
-    unopened: &mut Unopened<D>,
-    is_blank: bool,
-    before: Tally,
-) -> Result<bool, FileFault>
-    requires { AreUsable unopened.old }
-    ensures usable { OnOk result (AreUsable unopened.new) }
-    ensures schema { wanted_by unopened.new ≡ wanted_by unopened.old }
+// The same store, which says the form that this program makes.
+fn with_form<D: Disk + Drop>(store: FileStore<D>) -> Result<FileStore<D>, FileFault>
+    requires { IsClean (view store) → IsAtRest (view store) }
+    ensures clean { IfOk result (λ made. doubt (view store).is_clean ≤ doubt (view made).is_clean) }
+    ensures rest { IfOk result (λ made. IsClean (view made) → IsAtRest (view made)) }
+    ensures form { IfOk result (λ made. IsClean (view made) → (view made).committed ≡ with_version (view store).committed FORM) }
 {
-    if is_blank {
-        return Ok(true);
+    let mut store = store;
+    match set_form(&mut store) {
+        Ok(()) => Ok(store),
+        Err(error) => Err(FileFault::of_disk(error)),
     }
-    match unopened.read_catalog() {
-        Ok(rows) => Ok(rows.is_empty()),
-        Err(error) => Err(fault_of(error, before, unopened.tally())),
+}
+
+// The same store, with its log copied into its file.
+fn in_its_file<D: Disk + Drop>(store: FileStore<D>) -> Result<FileStore<D>, FileFault>
+    ensures { IfOk result (λ same. IsClean (view same) → view same ≡ view store) }
+{
+    let mut store = store;
+    match store.checkpoint() {
+        Ok(()) => Ok(store),
+        Err(error) => Err(FileFault::of_disk(error)),
     }
 }
 
 impl<D: Disk + Drop> Blank<D> {
-    /// Makes a store without rows. A crash leaves no database, one that can be made in its place, or that store.
+    /// Makes a store without rows, of the form that this program makes. A crash leaves no database, one that can be made in its place, or that store,
+    /// whose file may say no form yet.
     pub fn make(self) -> Result<Rested<D>, FileFault>
-        ensures { IfOk result (λ r. IsClean (view r.store) → Holds (view r.store).committed (λ _. [])) }
+        ensures empty { IfOk result (λ r. IsClean (view r.store) → Holds (view r.store).committed (λ _. [])) }
+        ensures form { IfOk result (λ r. IsClean (view r.store) → HasForm (view r.store).committed FORM) }
+    {
+        let formed = with_form(self.create()?)?;
+        let store = in_its_file(formed)?;
+        Ok(Rested { store })
+    }
+
+    // Makes a store without rows, whose file says no form.
+    fn create(self) -> Result<FileStore<D>, FileFault>
+        ensures rest { IfOk result (λ made. IsClean (view made) → IsAtRest (view made)) }
+        ensures empty { IfOk result (λ made. IsClean (view made) → Holds (view made).committed (λ _. [])) }
     {
         let before = self.unopened.tally();
         match self.unopened.create() {
-            Ok(store) => Ok(Rested { store }),
+            Ok(store) => Ok(store),
             Err((error, unopened)) => Err(fault_of(error, before, unopened.tally())),
         }
-    }
-}
-
-/// What these files hold, a database and its log. `seed` is a random number.
-pub fn find<D: Disk + Drop>(
-    alloc: Global,
-    files: Files<D>,
-    seed: u64,
-) -> Result<Found<D>, FileFault>
-    requires log { IsTrue (D.Disk.is_usable files.log) }
-    requires db { IsTrue (D.Disk.is_usable files.db) }
-{
-    let mut files = files;
-    let Some(size) = PageSize::new(PAGE) else {
-        unreachable!()
-    };
-    let before = files.tally();
-    let is_blank = match probe_blank(alloc, &mut files, size, false) {
-        Ok(is_blank) => is_blank,
-        Err(sqlite_wal::Error::OutOfMemory) => return Err(FileFault::Memory),
-        Err(_) => return Err(FileFault::of_disk(name_fault(before, files.tally()))),
-    };
-    let mut unopened = unopened(alloc, files, seed)?;
-    if has_no_tables(&mut unopened, is_blank, before)? {
-        return Ok(Found::Blank(Blank { unopened }));
-    }
-    match unopened.open() {
-        Ok(store) => Ok(Found::Store(Rested { store })),
-        Err((error, unopened)) => Err(fault_of(error, before, unopened.tally())),
     }
 }

@@ -1,7 +1,8 @@
 // What a path names, opened.
 
 use crate::fault::{FileFault, Hindrance};
-use crate::opening::{Found, find};
+use crate::finding::find;
+use crate::opening::Found;
 use crate::reading::{ReadFrom, open_files};
 use sqlite_disk::Unknown;
 use sqlite_std_file::{File, OpenError};

@@ -11,8 +11,8 @@ const ADD: &[u8] = b"field value = 0;\n\
 type Row = (&'static [u8], &'static [u64]);
 
 const FAULTS: [Row; 12] = [
-    (b"proc p() {\n    emit 1 % 2;\n}", &[270, 2, 12]),
-    (b"proc p() { emit 2147483648; }", &[271, 1, 17]),
+    (b"proc p() {\n    emit 1 $ 2;\n}", &[270, 2, 12]),
+    (b"proc p() { emit 9223372036854775808; }", &[271, 1, 17]),
     (b"proc p() { emit 1 }", &[273, 1, 19]),
     (b"proc p() { emit x; }", &[275, 1, 17]),
     (b"proc p(a, a) {}", &[276, 1, 11]),

@@ -3,23 +3,30 @@
 use crate::archive::{Finish, Trails};
 use crate::failure::Failure;
 use crate::program::Program;
-use crate::{CliFault, end_generation, generations_lines, open_engine, open_generations};
+use crate::{
+    CliFault, check_procs_cmd, end_generation, generations_lines, open_engine, open_generations,
+};
+use serde_json::json;
 use std::net::{Net, TcpListener, TcpStream};
 use std::rt::Files;
 use std::sync::Wait;
 use std::thread::Threads;
 use std::time::{Clock, Duration};
-use tl_arguments::{LastingOptions, Outputs, Sealing, ServeOptions};
+use std::{io, str, thread};
+use tl_arguments::{LastingOptions, Outputs, Ruling, Sealing, ServeOptions};
 use tl_file_journal::{End, Opening};
 use tl_generations::Succession;
 use tl_json::RegisterFault;
 use tl_procedures::Procedures;
 use tl_server::{
     Address, Control, Journal, Keeper, LastingServer, ListenFault, NoJournal, Relay, Server, Texts,
-    ask_for_copy, ask_status, ask_to_stop,
+    ask_for_copy, ask_status, ask_to_obey, ask_to_stop,
 };
 use tl_verify::Proc;
 use tl_workers::{Engine, Session};
+
+// How many milliseconds lie between two questions to a server that is waited for.
+const PAUSE: u64 = 100;
 
 // Why the program doesn't listen there.
 fn not_bound<'p>(address: Address<'p>, fault: ListenFault) -> Failure<'p> {
@@ -224,9 +231,15 @@ where
             succession,
             known: _,
         } = opening;
-        let archive = archive(trails, succession, self.nodes);
+        let mut archive = archive(trails, succession, self.nodes);
+        archive.compare_by(journal.comparer());
         let epochs = u32::from(lasting.generation);
         let relay = Relay::new(self.rt.alloc(), engine, archive, journal, epochs);
+        let relay = if lasting.is_frozen {
+            relay.that_is_frozen()
+        } else {
+            relay
+        };
         self.serve_relay(relay, options, lasting.connections, save)
     }
 
@@ -247,6 +260,7 @@ where
         if let Some((engine, sessions)) = left {
             archive.close(engine, sessions);
         }
+        archive.compare_last(self.rt.alloc());
         let ended = journal.end(self.rt, self.rt.alloc(), archive.left(self.rt.alloc()));
         if let Err(fault) = ended {
             return Err(Failure::from(fault));
@@ -378,9 +392,52 @@ where
         }
     }
 
-    /// Asks a server how far it is.
-    pub(crate) fn status<'p>(&self, control: Address<'p>) -> Result<String, Failure<'p>> {
-        let asked = ask_status(self.rt, self.rt.alloc(), control);
-        asked.map_err(|reason| Failure::NoServer { control, reason })
+    // The line that asks a server to take the procedures of a text. A text with a fault is shown, and there is no line.
+    fn ruling_line<'p>(&self, ruling: Ruling, path: &'p str) -> Result<String, Failure<'p>> {
+        let (alloc, file) = (self.rt.alloc(), self.read_file(path)?);
+        if let Err(fault) = check_procs_cmd(alloc, &file) {
+            return Err(self.misread_language(path, &file, fault));
+        }
+        let op = match ruling {
+            Ruling::Register => "register",
+            Ruling::Replace => "replace",
+        };
+        // Such a text is UTF-8.
+        let text = str::from_utf8(&file).unwrap_or("");
+        let request = json!(in alloc; {"op": op, "text": text})?;
+        Ok(format!(in alloc; "{}\n", request.to_string(alloc)?)?)
+    }
+
+    /// Asks a server to take the procedures of a text.
+    pub(crate) fn rule<'p>(
+        &self,
+        control: Address<'p>,
+        ruling: Ruling,
+        path: &'p str,
+    ) -> Result<String, Failure<'p>> {
+        let line = self.ruling_line(ruling, path)?;
+        match ask_to_obey(self.rt, self.rt.alloc(), control, &line) {
+            Ok(answer) if answer.starts_with("{\"error\":") => Err(Failure::Unheeded { answer }),
+            Ok(answer) => Ok(answer),
+            Err(reason) => Err(Failure::NoServer { control, reason }),
+        }
+    }
+
+    /// Asks a server how far it is. If it waits, it asks until there is a server. Another program there is none.
+    pub(crate) fn status<'p>(
+        &self,
+        control: Address<'p>,
+        waits: bool,
+    ) -> Result<String, Failure<'p>> {
+        for _ in self.rt.forever() {
+            match ask_status(self.rt, self.rt.alloc(), control) {
+                Ok(line) => return Ok(line),
+                Err(reason) if waits && reason.kind() != io::ErrorKind::InvalidData => {
+                    thread::sleep(self.rt, Duration::from_millis(PAUSE));
+                }
+                Err(reason) => return Err(Failure::NoServer { control, reason }),
+            }
+        }
+        unreachable!()
     }
 }

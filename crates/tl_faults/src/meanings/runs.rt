@@ -133,7 +133,7 @@ pub fn from_801_to_990(number: u16) -> Option<Meaning> {
         901 => Some(Meaning {
             parts: "",
             name: "not a request",
-            when: "the line is none of the requests",
+            when: "the line is none of the requests; of a line that a browser sends, the connection is ended",
             advice: "compare it with the lines in `server.md`",
         }),
         902 => Some(Meaning {

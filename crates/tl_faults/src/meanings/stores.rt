@@ -85,7 +85,7 @@ pub fn from_1001_to_1014(number: u16) -> Option<Meaning> {
         1014 => Some(Meaning {
             parts: "",
             name: "other store",
-            when: "the store doesn't have at the end what the server's last engine left, or a copy doesn't have as many rows as the store counts, and isn't there",
+            when: "the store doesn't have what the server's engines did, seen at a hand-over or at the end; or a copy doesn't have as many rows as the store counts, and isn't there",
             advice: "look at the disks: one of them gave back what wasn't written",
         }),
         _ => None,
@@ -99,6 +99,12 @@ pub fn from_1015_to_1090(number: u16) -> Option<Meaning> {
             name: "no keys",
             when: "the call has a key, and the server keeps no store, so it would forget the key at its end",
             advice: "start the server with `--store`, or ask without a key",
+        }),
+        1018 => Some(Meaning {
+            parts: ", form",
+            name: "newer store",
+            when: "a newer version of treedb made the store, in a form that this one doesn't know; the file stays as it is",
+            advice: "take that version, or a newer one",
         }),
         1090 => Some(Meaning {
             parts: "",

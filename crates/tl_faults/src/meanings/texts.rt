@@ -152,7 +152,7 @@ pub fn from_205_to_275(number: u16) -> Option<Meaning> {
             parts: ", line, column",
             name: "bad number",
             when: "the number has a leading zero or a letter, or is too large; or a constant is, or a number on the way to it, or one there is divided by 0",
-            advice: "numbers are decimal, from -2147483648 to 2147483647",
+            advice: "numbers are decimal, from -9223372036854775808 to 9223372036854775807",
         }),
         272 => Some(Meaning {
             parts: ", line, column",
@@ -163,7 +163,7 @@ pub fn from_205_to_275(number: u16) -> Option<Meaning> {
         273 => Some(Meaning {
             parts: ", line, column",
             name: "misplaced",
-            when: "the word, number or sign can't stand here, as a `return` in a part",
+            when: "the word, number or sign can't stand here, as a `return` in a part; a side of `%` is computed; a part is named `while`",
             advice: "look at what stands before it; `language.md` has the grammar",
         }),
         274 => Some(Meaning {
@@ -199,7 +199,7 @@ pub fn from_276_to_289(number: u16) -> Option<Meaning> {
         278 => Some(Meaning {
             parts: ", line, column",
             name: "field above 7",
-            when: "a field has a number above 7",
+            when: "a field's number isn't from 0 to 7",
             advice: "a record has the fields 0 to 7",
         }),
         279 => Some(Meaning {

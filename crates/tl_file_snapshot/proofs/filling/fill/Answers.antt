@@ -14,7 +14,7 @@ returns-clause-copied g c = IfOk-weaker c.in_one_file.result _ _
     let filled_clean : IsClean (view c.in_ok-filled.field-0) = subst IsClean is clean in
     let made_clean : IsClean (view c.in_ok-make.field-0.store) = omega (arith, filled_clean, c.in_ok-filled.ensures.clean) in
     subst (λ (v : View). IsCopy (g.S.Store.view c.args.ledger.now.store).committed v.committed) (sym is)
-    (c.in_ok-filled.ensures.copied ledger_clean filled_clean (c.in_ok-make.ensures made_clean)))
+    (c.in_ok-filled.ensures.copied ledger_clean filled_clean (c.in_ok-make.ensures.empty made_clean)))
     c.in_one_file.ensures
 
 pub returns-clause-counted : goal.returns-clause-counted

@@ -15,7 +15,7 @@ pub returns-in-Batch : goal.returns-in-Batch
 returns-in-Batch g c =
     let s = c.args.session.now in
     let t = c.batch.new.session in
-    let P : LineRequest → Type 0 = λ q. (x : List Did) × Gains s t x × CameOf (record { seals = c.args.engine.now.seals; grows = false; reads = NoTexts; keys = KnowsNoKeys }) (line_view q) x (Batched c.batch.result) in
+    let P : LineRequest → Type 0 = λ q. (x : List Did) × Gains s t x × CameOf (record { seals = c.args.engine.now.seals; grows = false; reads = NoTexts; keys = KnowsNoKeys; frozen = false }) (line_view q) x (Batched c.batch.result) in
     let asked = c.deref-in-Batch in
     let (x, gains, outcome) = batch_came asked.result.now s t c.args.engine.now.seals c.batch.result c.batch.ensures.each c.batch.ensures.refused c.batch.ensures.kept c.batch.ensures.err in
     subst P (sym c.in-Batch.is) (x, gains, (asked.result.now, ap (map request_form) asked.ensures.value, outcome))
@@ -25,5 +25,5 @@ returns-in-Seal g c =
     let s = c.args.session.now in
     let seals = c.args.engine.now.seals in
     let answer = c.seal.result in
-    let P : LineRequest → Type 0 = λ q. (x : List Did) × Gains s s x × CameOf (record { seals = seals; grows = false; reads = NoTexts; keys = KnowsNoKeys }) (line_view q) x (Sealed answer) in
+    let P : LineRequest → Type 0 = λ q. (x : List Did) × Gains s s x × CameOf (record { seals = seals; grows = false; reads = NoTexts; keys = KnowsNoKeys; frozen = false }) (line_view q) x (Sealed answer) in
     subst P (sym c.in-Seal.is) ([], gains_nothing s, (refl, seal_outcome seals answer c.seal.ensures.number c.seal.ensures.refused c.seal.ensures.rested))

@@ -1,5 +1,5 @@
 use Rattle.std.proofs.Common.{◌+◌, ◌++◌, ◌∙◌, Bool, true, false, ap, refl, sym, subst}
-use Rattle.std.specs.Prelude.{if◌then◌else◌}
+use Rattle.std.specs.Prelude.{if◌then◌else◌, ◌==◌}
 use Rattle.tl_server.specs.declared.reader.Came.{Came}
 use Rattle.tl_server.specs.Coming.{Comes}
 use Rattle.tl_server.specs.Sending.{Sending, sending}
@@ -75,7 +75,7 @@ returns-then-has_failed-2-clause-write g c = λ _.
     let s3 : Sending = sending (g.K.Sink.output c.flush.new.sink) (g.K.Sink.failures c.flush.new.sink) c.flush.new.self in
     let tested = sym c.has_failed-in-Ok-Rest.ensures ∙ c.if-has_failed-2.true in
     let r = c.next-in-loop.new.self in
-    let one = one_of g.V.Service.gains (g.V.Service.ways c.args.service.now) g.V.Service.may_seal c.loop.visitor c.answer_line.new.visitor s1 s2 c.line.result.now r.held c.answer_line.result c.answer_line.result c.answer_line.ensures c.line.ensures refl in
+    let one = one_of g.V.Service.gains (g.V.Service.ways c.args.service.now) g.V.Service.may_seal c.loop.visitor c.answer_line.new.visitor s1 s2 (c.loop.count == 0) c.line.result.now r.held c.answer_line.result c.answer_line.result c.answer_line.ensures c.line.ensures refl in
     if_some (g.S.Source.input c.args.source.now) _ (λ bytes e.
     let run = settles m input c.loop.visitor s s1 left c.loop.count bytes (c.loop.invariant.0 bytes e) c.settle.ensures.writes in
     let P : Came → Type 0 = λ k. Comes (left ++ run.unread) k c.next-in-loop.new.self input' in
@@ -96,7 +96,7 @@ returns-in-Ok-Rest-clause-ok g c =
     let s3 : Sending = sending (g.K.Sink.output c.flush.new.sink) (g.K.Sink.failures c.flush.new.sink) c.flush.new.self in
     let tested = sym c.has_failed-in-Ok-Rest.ensures ∙ c.if-has_failed-2.false in
     let r = c.next-in-loop.new.self in
-    let one = one_of g.V.Service.gains (g.V.Service.ways c.args.service.now) g.V.Service.may_seal c.loop.visitor c.answer_line.new.visitor s1 s2 c.line.result.now r.held c.answer_line.result c.answer_line.result c.answer_line.ensures c.line.ensures refl in
+    let one = one_of g.V.Service.gains (g.V.Service.ways c.args.service.now) g.V.Service.may_seal c.loop.visitor c.answer_line.new.visitor s1 s2 (c.loop.count == 0) c.line.result.now r.held c.answer_line.result c.answer_line.result c.answer_line.ensures c.line.ensures refl in
     if_some (g.S.Source.input c.args.source.now) _ (λ bytes e.
     let run = settles m input c.loop.visitor s s1 left c.loop.count bytes (c.loop.invariant.0 bytes e) c.settle.ensures.writes in
     let P : Came → Type 0 = λ k. Comes (left ++ run.unread) k c.next-in-loop.new.self input' in
@@ -117,7 +117,7 @@ returns-then-has_failed-3-clause-write g c = λ _.
     let s3 : Sending = sending (g.K.Sink.output c.flush-then-answer_line.new.sink) (g.K.Sink.failures c.flush-then-answer_line.new.sink) c.flush-then-answer_line.new.self in
     let tested = sym c.has_failed-then-answer_line.ensures ∙ c.if-has_failed-3.true in
     let r = c.next-in-loop.new.self in
-    let one = one_of g.V.Service.gains (g.V.Service.ways c.args.service.now) g.V.Service.may_seal c.loop.visitor c.answer_line-in-Ok-Whole.new.visitor s1 s2 c.line-in-Ok-Whole.result.now r.held c.answer_line-in-Ok-Whole.result true c.answer_line-in-Ok-Whole.ensures c.line-in-Ok-Whole.ensures c.if-answer_line.true in
+    let one = one_of g.V.Service.gains (g.V.Service.ways c.args.service.now) g.V.Service.may_seal c.loop.visitor c.answer_line-in-Ok-Whole.new.visitor s1 s2 (c.loop.count == 0) c.line-in-Ok-Whole.result.now r.held c.answer_line-in-Ok-Whole.result true c.answer_line-in-Ok-Whole.ensures c.line-in-Ok-Whole.ensures c.if-answer_line.true in
     if_some (g.S.Source.input c.args.source.now) _ (λ bytes e.
     let run = settles m input c.loop.visitor s s1 left c.loop.count bytes (c.loop.invariant.0 bytes e) c.settle.ensures.writes in
     let P : Came → Type 0 = λ k. Comes (left ++ run.unread) k c.next-in-loop.new.self input' in
@@ -138,7 +138,7 @@ returns-then-answer_line-clause-ok g c =
     let s3 : Sending = sending (g.K.Sink.output c.flush-then-answer_line.new.sink) (g.K.Sink.failures c.flush-then-answer_line.new.sink) c.flush-then-answer_line.new.self in
     let tested = sym c.has_failed-then-answer_line.ensures ∙ c.if-has_failed-3.false in
     let r = c.next-in-loop.new.self in
-    let one = one_of g.V.Service.gains (g.V.Service.ways c.args.service.now) g.V.Service.may_seal c.loop.visitor c.answer_line-in-Ok-Whole.new.visitor s1 s2 c.line-in-Ok-Whole.result.now r.held c.answer_line-in-Ok-Whole.result true c.answer_line-in-Ok-Whole.ensures c.line-in-Ok-Whole.ensures c.if-answer_line.true in
+    let one = one_of g.V.Service.gains (g.V.Service.ways c.args.service.now) g.V.Service.may_seal c.loop.visitor c.answer_line-in-Ok-Whole.new.visitor s1 s2 (c.loop.count == 0) c.line-in-Ok-Whole.result.now r.held c.answer_line-in-Ok-Whole.result true c.answer_line-in-Ok-Whole.ensures c.line-in-Ok-Whole.ensures c.if-answer_line.true in
     if_some (g.S.Source.input c.args.source.now) _ (λ bytes e.
     let run = settles m input c.loop.visitor s s1 left c.loop.count bytes (c.loop.invariant.0 bytes e) c.settle.ensures.writes in
     let P : Came → Type 0 = λ k. Comes (left ++ run.unread) k c.next-in-loop.new.self input' in
@@ -159,7 +159,7 @@ loop-preserved g c =
     let s2 : Sending = sending (g.K.Sink.output after.sink) (g.K.Sink.failures after.sink) after.outbox in
     let r = c.next-in-loop.new.self in
     let n = g.K.Sink.failures c.args.sink.now in
-    let one = one_of g.V.Service.gains (g.V.Service.ways c.args.service.now) g.V.Service.may_seal c.loop.visitor after.visitor s1 s2 c.line-in-Ok-Whole.result.now r.held c.answer_line-in-Ok-Whole.result false c.answer_line-in-Ok-Whole.ensures c.line-in-Ok-Whole.ensures c.if-answer_line.false in (
+    let one = one_of g.V.Service.gains (g.V.Service.ways c.args.service.now) g.V.Service.may_seal c.loop.visitor after.visitor s1 s2 (c.loop.count == 0) c.line-in-Ok-Whole.result.now r.held c.answer_line-in-Ok-Whole.result false c.answer_line-in-Ok-Whole.ensures c.line-in-Ok-Whole.ensures c.if-answer_line.false in (
       (λ bytes e.
           let run = settles m input c.loop.visitor s s1 left c.loop.count bytes (c.loop.invariant.0 bytes e) c.settle.ensures.writes in
           let P : Came → Type 0 = λ k. Comes (left ++ run.unread) k c.next-in-loop.new.self input' in
@@ -167,7 +167,7 @@ loop-preserved g c =
           goes_on x m input input' c.loop.visitor after.visitor s1 s2 left r c.loop.count bytes run came one c.in-Some-checked_add.more c.in-Some-checked_add.ensures.1),
       c.in-Ok-Whole.ensures.fine ∙ c.loop.invariant.1,
       c.answer_line-in-Ok-Whole.ensures.3.counts n (c.settle.ensures.writes.counts n c.loop.invariant.2),
-      answered_more (g.V.Service.ways c.args.service.now) x c.args.visitor.now c.loop.visitor after.visitor c.line-in-Ok-Whole.result.now c.answer_line-in-Ok-Whole.result c.answer_line-in-Ok-Whole.ensures.0 c.answer_line-in-Ok-Whole.ensures.1 c.loop.invariant.3 c.answer_line-in-Ok-Whole.ensures.2 c.answer_line-in-Ok-Whole.ensures.4,
+      answered_more (g.V.Service.ways c.args.service.now) x c.args.visitor.now c.loop.visitor after.visitor (c.loop.count == 0) c.line-in-Ok-Whole.result.now c.answer_line-in-Ok-Whole.result c.answer_line-in-Ok-Whole.ensures.0 c.answer_line-in-Ok-Whole.ensures.1 c.loop.invariant.3 c.answer_line-in-Ok-Whole.ensures.2 c.answer_line-in-Ok-Whole.ensures.4,
     )
 
 pub returns-then-has_failed-clause-kept : goal.returns-then-has_failed-clause-kept
@@ -182,19 +182,19 @@ returns-in-Ok-End-clause-kept g c = c.loop.invariant.3
 pub returns-then-has_failed-2-clause-kept : goal.returns-then-has_failed-2-clause-kept
 returns-then-has_failed-2-clause-kept g c =
     let x : Laws g.V.Service.gains g.V.Service.may_seal = record { none = g.met.V.Service.gains_none; more = g.met.V.Service.gains_more; on = g.met.V.Service.seals_on } in
-    answered_more (g.V.Service.ways c.args.service.now) x c.args.visitor.now c.loop.visitor c.answer_line.new.visitor c.line.result.now c.answer_line.result c.answer_line.ensures.0 c.answer_line.ensures.1 c.loop.invariant.3 c.answer_line.ensures.2 c.answer_line.ensures.4
+    answered_more (g.V.Service.ways c.args.service.now) x c.args.visitor.now c.loop.visitor c.answer_line.new.visitor (c.loop.count == 0) c.line.result.now c.answer_line.result c.answer_line.ensures.0 c.answer_line.ensures.1 c.loop.invariant.3 c.answer_line.ensures.2 c.answer_line.ensures.4
 
 pub returns-in-Ok-Rest-clause-kept : goal.returns-in-Ok-Rest-clause-kept
 returns-in-Ok-Rest-clause-kept g c =
     let x : Laws g.V.Service.gains g.V.Service.may_seal = record { none = g.met.V.Service.gains_none; more = g.met.V.Service.gains_more; on = g.met.V.Service.seals_on } in
-    answered_more (g.V.Service.ways c.args.service.now) x c.args.visitor.now c.loop.visitor c.answer_line.new.visitor c.line.result.now c.answer_line.result c.answer_line.ensures.0 c.answer_line.ensures.1 c.loop.invariant.3 c.answer_line.ensures.2 c.answer_line.ensures.4
+    answered_more (g.V.Service.ways c.args.service.now) x c.args.visitor.now c.loop.visitor c.answer_line.new.visitor (c.loop.count == 0) c.line.result.now c.answer_line.result c.answer_line.ensures.0 c.answer_line.ensures.1 c.loop.invariant.3 c.answer_line.ensures.2 c.answer_line.ensures.4
 
 pub returns-then-has_failed-3-clause-kept : goal.returns-then-has_failed-3-clause-kept
 returns-then-has_failed-3-clause-kept g c =
     let x : Laws g.V.Service.gains g.V.Service.may_seal = record { none = g.met.V.Service.gains_none; more = g.met.V.Service.gains_more; on = g.met.V.Service.seals_on } in
-    answered_more (g.V.Service.ways c.args.service.now) x c.args.visitor.now c.loop.visitor c.answer_line-in-Ok-Whole.new.visitor c.line-in-Ok-Whole.result.now c.answer_line-in-Ok-Whole.result c.answer_line-in-Ok-Whole.ensures.0 c.answer_line-in-Ok-Whole.ensures.1 c.loop.invariant.3 c.answer_line-in-Ok-Whole.ensures.2 c.answer_line-in-Ok-Whole.ensures.4
+    answered_more (g.V.Service.ways c.args.service.now) x c.args.visitor.now c.loop.visitor c.answer_line-in-Ok-Whole.new.visitor (c.loop.count == 0) c.line-in-Ok-Whole.result.now c.answer_line-in-Ok-Whole.result c.answer_line-in-Ok-Whole.ensures.0 c.answer_line-in-Ok-Whole.ensures.1 c.loop.invariant.3 c.answer_line-in-Ok-Whole.ensures.2 c.answer_line-in-Ok-Whole.ensures.4
 
 pub returns-then-answer_line-clause-kept : goal.returns-then-answer_line-clause-kept
 returns-then-answer_line-clause-kept g c =
     let x : Laws g.V.Service.gains g.V.Service.may_seal = record { none = g.met.V.Service.gains_none; more = g.met.V.Service.gains_more; on = g.met.V.Service.seals_on } in
-    answered_more (g.V.Service.ways c.args.service.now) x c.args.visitor.now c.loop.visitor c.answer_line-in-Ok-Whole.new.visitor c.line-in-Ok-Whole.result.now c.answer_line-in-Ok-Whole.result c.answer_line-in-Ok-Whole.ensures.0 c.answer_line-in-Ok-Whole.ensures.1 c.loop.invariant.3 c.answer_line-in-Ok-Whole.ensures.2 c.answer_line-in-Ok-Whole.ensures.4
+    answered_more (g.V.Service.ways c.args.service.now) x c.args.visitor.now c.loop.visitor c.answer_line-in-Ok-Whole.new.visitor (c.loop.count == 0) c.line-in-Ok-Whole.result.now c.answer_line-in-Ok-Whole.result c.answer_line-in-Ok-Whole.ensures.0 c.answer_line-in-Ok-Whole.ensures.1 c.loop.invariant.3 c.answer_line-in-Ok-Whole.ensures.2 c.answer_line-in-Ok-Whole.ensures.4

@@ -1,23 +1,21 @@
-use Rattle.std.proofs.Common.{◌∙◌, ap, arith}
-use Rattle.sqlite_trees.proofs.Doubt.{clean_of}
-use Rattle.sqlite_store.proofs.ListingLemmas.{named_shape}
-use Rattle.sqlite_store.specs.Catalog.{shape_at}
-use Rattle.sqlite_store.specs.FileStore.{schema_of}
-use Rattle.tl_ledger.specs.declared.schema.TheConstants.{NAME}
+use Rattle.std.proofs.Common.{◌≡◌, ap, sym, subst, ◌∙◌, arith}
+use Rattle.sqlite_store.specs.FileStore.{view}
+use Rattle.sqlite_trees.specs.Objects.{version_tree}
+use Rattle.sqlite_trees.specs.Tree.{Trees}
+use Rattle.sqlite_trees.specs.View.{View, IsClean}
+use Rattle.tl_ledger.specs.Contents.{Holds, no_contents}
+use Rattle.tl_store_file.specs.declared.form.TheConstants.{FORM}
+use Rattle.tl_store_file.proofs.FormLemmas.{same_rows}
 use Rattle.tl_store_file.proofs.opening.Blank.make.Goals as goal
 
-pub invariant_of-result : goal.invariant_of-result
-invariant_of-result g c = record {
-  rests = λ clean. record {
-    is_open = c.in-Ok.ensures.ready.is_open clean;
-    sound = c.in-Ok.ensures.ready.sound clean;
-    settled = c.in-Ok.ensures.ready.clean;
-    tables = λ t less. named_shape t (omega arith) (schema_of c.in-Ok.store) ∙ ap (λ s. shape_at s t) c.in-Ok.ensures.schema ∙ c.args.self.lists t less;
-  };
-}
+pub returns-clause-empty : goal.returns-clause-empty
+returns-clause-empty g c = λ clean.
+    let same = c.in_ok-store.ensures clean in
+    let formed = subst IsClean same clean in
+    subst (λ (v : View). Holds v.committed no_contents) (sym same)
+    (subst (λ (db : Trees). Holds db no_contents) (sym (c.in_ok-formed.ensures.form formed)) (same_rows _ FORM no_contents (c.in_ok-create.ensures.empty (omega (arith, formed, c.in_ok-formed.ensures.clean)))))
 
-pub returns-in-Ok : goal.returns-in-Ok
-returns-in-Ok g c = λ clean. record {
-  numbered = λ t less. c.in-Ok.ensures.empty (clean_of _ clean) t (omega arith);
-  names = c.in-Ok.ensures.empty (clean_of _ clean) NAME (omega arith);
-}
+pub returns-clause-form : goal.returns-clause-form
+returns-clause-form g c = λ clean.
+    let same = c.in_ok-store.ensures clean in
+    ap (λ (v : View). v.committed version_tree) same ∙ ap (λ (db : Trees). db version_tree) (c.in_ok-formed.ensures.form (subst IsClean same clean))
