@@ -10,9 +10,11 @@
 // Numbers of records are signed 64-bit integers, which a JavaScript number can't hold: arguments may be BigInts, or numbers that are safe integers,
 // and replies are BigInts. `docs/use/server.md` has the lines that go to and fro, `docs/use/faults.md` all numbers of refusals.
 
+import { randomUUID } from "node:crypto";
 import { readFile } from "node:fs/promises";
 import net from "node:net";
 import { parse } from "node:path";
+import { setTimeout as pause } from "node:timers/promises";
 import { fileURLToPath } from "node:url";
 import { assemblerText } from "./containers.mjs";
 import { FAULTS } from "./faults.mjs";
@@ -39,17 +41,36 @@ export class Refused extends TreedbError {
   }
 }
 
-/** There is no connection: the server can't be reached, or the connection ended before the answer. A call that was sent may have been done. */
-export class Disconnected extends TreedbError {
-  constructor(message = "the server ended the connection", options) {
-    super(message, options);
+/**
+ * The base of `Disconnected` and `TimedOut`: a request has no answer. `mayHaveRun` says whether it may have been done all the same. Where it is false, nothing was
+ * sent, and asking again does no harm.
+ */
+export class Unanswered extends TreedbError {
+  constructor(reason, { mayHaveRun = false, cause } = {}) {
+    super(reason, cause === undefined ? undefined : { cause });
+    this.reason = reason;
+    this.told(mayHaveRun);
+  }
+
+  /** Says whether the request may have been done. */
+  told(mayHaveRun) {
+    this.mayHaveRun = mayHaveRun;
+    this.message = `${this.reason} (${mayHaveRun ? "it may have been done" : "nothing was sent"})`;
+    return this;
   }
 }
 
-/** The answer didn't come in time. A call that was sent may have been done. */
-export class TimedOut extends TreedbError {
-  constructor(message = "no answer in time") {
-    super(message);
+/** There is no connection: the server can't be reached, or the connection ended before the answer. */
+export class Disconnected extends Unanswered {
+  constructor(reason = "the server ended the connection", options) {
+    super(reason, options);
+  }
+}
+
+/** The answer didn't come in time. */
+export class TimedOut extends Unanswered {
+  constructor(reason = "no answer in time", options) {
+    super(reason, options);
   }
 }
 
@@ -89,6 +110,35 @@ const NAME_TAKEN = 611;
 const MAX_BATCH = 256;
 // How many bytes of UTF-8 a key has at most.
 const MAX_KEY = 64;
+// How long an answer may take, in milliseconds, where nothing else is said, and for how long a call is asked for again.
+const TIMEOUT = 30_000;
+const PATIENCE = 60_000;
+// The first pause before another try, and the longest.
+const FIRST_PAUSE = 50;
+const LONGEST_PAUSE = 2_000;
+// A longer line is none that a server answers.
+const MAX_ANSWER = 2 ** 24;
+
+/** A key for a call that no other call has: 122 bits by chance. */
+export const newKey = () => randomUUID();
+
+// What a request gives that may be asked for again: it is, where it has no answer, until `patience` is over. Each pause is up to twice as long as the one before, and by
+// chance less, so that many clients of a server don't all come at once.
+async function untilAnswered(ask, patience) {
+  const end = performance.now() + patience;
+  let mayHaveRun = false;
+  for (let longest = FIRST_PAUSE; ; longest = Math.min(2 * longest, LONGEST_PAUSE)) {
+    try {
+      return await ask();
+    } catch (lost) {
+      if (!(lost instanceof Unanswered)) throw lost;
+      mayHaveRun ||= lost.mayHaveRun;
+      const left = end - performance.now();
+      if (left <= 0) throw lost.told(mayHaveRun);
+      await pause(Math.min(longest * (0.5 + Math.random() / 2), left));
+    }
+  }
+}
 
 // Requests are written by hand, since JSON.stringify takes no BigInt. A text stays a text, and only an exact integer of 64 bits is a number.
 function text(value) {
@@ -126,43 +176,56 @@ const callOf = ({ call, reply, stored, epoch = 0 }) => (stored === undefined ? {
 export class Client {
   #socket;
   #timeout;
+  // Where the client was made for, as `connect` was told.
+  #to;
   #rest = "";
   #waiting = [];
   #ended = null;
   #reads = null;
+  #opening = null;
+  #isClosed = false;
 
   /** Takes over a connected socket; `connect` makes one. `timeout` is in milliseconds, for each answer; 0 waits as long as it takes. */
-  constructor(socket, timeout = 0) {
-    this.#socket = socket;
+  constructor(socket, timeout = TIMEOUT, to = null) {
     this.#timeout = timeout;
+    this.#to = to;
+    this.#takeOver(socket);
+  }
+
+  #takeOver(socket) {
+    this.#socket = socket;
+    this.#rest = "";
+    this.#ended = null;
+    const end = (reason) => { if (socket === this.#socket) this.#end(reason); };
     socket.setEncoding("utf8");
     socket.setNoDelay?.(true);
-    socket.on("data", (piece) => this.#take(piece));
-    socket.on("error", (reason) => this.#end(new Disconnected(`the connection is lost: ${reason.message}`, { cause: reason })));
-    socket.on("close", () => this.#end(new Disconnected()));
+    socket.on("data", (piece) => { if (socket === this.#socket) this.#take(piece); });
+    socket.on("error", (cause) => end(new Disconnected(`the connection is lost: ${cause.message}`, { cause })));
+    socket.on("close", () => end(new Disconnected()));
   }
 
   /**
-   * Connects to a port, `{ port, host }` or `port, host`, or to a Unix socket, `{ path }`. With `timeout`, in milliseconds, each answer has to come in time, else
-   * `TimedOut`; the connection goes on after that, and the late answer is passed over. `connectTimeout` is that of the connection, and as long as `timeout` where it isn't said.
+   * Connects to a port, `{ port, host }` or `port, host`, or to a Unix socket, `{ path }`. With `timeout`, in milliseconds, 30,000 if nothing is said, each answer has to come in time, else
+   * `TimedOut`; the connection goes on after that, and the late answer is passed over. `connectTimeout` is that of the connection, and as long as `timeout` where it isn't said. 0 waits as
+   * long as it takes. `patience`, 60,000 if nothing is said, is for how long `callOnce` asks again.
    */
-  static connect(to, host) {
-    const { timeout = 0, connectTimeout = timeout, ...address } = typeof to === "object" ? { ...(to.path === undefined && { host: "127.0.0.1" }), ...to } : { port: to, host: host ?? "127.0.0.1" };
-    return new Promise((connected, failed) => {
-      const socket = net.connect(address);
-      const late = connectTimeout > 0 ? setTimeout(() => stop(new TimedOut("no connection in time")), connectTimeout) : undefined;
-      const stop = (reason) => {
-        clearTimeout(late);
-        socket.destroy();
-        failed(reason instanceof TreedbError ? reason : new Disconnected(reason.message || String(reason.code), { cause: reason }));
-      };
-      socket.once("error", stop);
-      socket.once("connect", () => {
-        clearTimeout(late);
-        socket.off("error", stop);
-        connected(new Client(socket, timeout));
-      });
-    });
+  static async connect(to, host) {
+    const asked = typeof to === "object" ? { ...(to.path === undefined && { host: "127.0.0.1" }), ...to } : { port: to, host: host ?? "127.0.0.1" };
+    return new Client(await opened(asked), asked.timeout ?? TIMEOUT, asked);
+  }
+
+  /** Whether there is a connection, as far as this client knows. */
+  get isOpen() {
+    return this.#ended === null;
+  }
+
+  /** Connects anew to where the client was made for, if there is no connection. After `close` it doesn't. */
+  async reconnect() {
+    if (this.#isClosed || this.#to === null) throw new TreedbError("the client is closed, or was made without an address");
+    if (this.isOpen) return;
+    // Who asks for it at the same time waits for the same connection.
+    this.#opening ??= opened(this.#to).then((socket) => this.#takeOver(socket)).finally(() => { this.#opening = null; });
+    await this.#opening;
   }
 
   /** Registers a procedure's assembler text under a name. Answers its bounds: `{ steps, locks, emits }`. */
@@ -171,7 +234,7 @@ export class Client {
   }
 
   /**
-   * Registers all procedures of a text of the procedure language, or none. Answers the bounds of each by its name. A server with `--connections` doesn't take such
+   * Registers all procedures of a text of the procedure language, or none. Answers the bounds of each by its name. In session mode (`--connections`) a server doesn't take such
    * texts: 901.
    */
   async registerText(written) {
@@ -196,7 +259,7 @@ export class Client {
 
   /**
    * Puts all procedures of a text of the procedure language in the place of those with their names, or none. Answers the bounds of each by its name. Calls that are
-   * answered before run the old code, and calls that are asked for after the answer run the new one. Only a server that lasts knows this (901).
+   * answered before run the old code, and calls that are asked for after the answer run the new one. In session mode a server refuses it (901).
    */
   async replaceText(written) {
     const { replaced } = await this.#ask(`{"op":"replace","text":${text(written)}}`);
@@ -209,12 +272,16 @@ export class Client {
   }
 
   /**
-   * Runs a call once, however often it is asked for with this key, a text of 1 to 64 bytes that no other call has: also after a `Disconnected` or a `TimedOut`, on a
-   * new connection, and after the server's next start. Answers `{ call, reply, epoch }`, or, where that was done before, `{ call, reply, stored }` with the number of
-   * the epoch in the server's store. A server without a store refuses it with 1015.
+   * Runs a call once, also where its answer is lost. It has this key, a text of 1 to 64 bytes that no other call has, as `newKey()` gives one. After a `Disconnected` or a
+   * `TimedOut` it connects again where it has to, with growing pauses, and asks again: until the `patience` of `connect` is over. Answers `{ call, reply, epoch }`, or, where
+   * the call was done before, `{ call, reply, stored }` with the number of the epoch in the server's store. A server without a store refuses it with 1015.
    */
   async callOnce(key, procedure, ...args) {
-    return callOf(await this.#ask(`{"op":"call","proc":${text(procedure)},"args":${integers(args)},"key":${keyText(key)}}`));
+    const line = `{"op":"call","proc":${text(procedure)},"args":${integers(args)},"key":${keyText(key)}}`;
+    return callOf(await untilAnswered(async () => {
+      if (!this.isOpen) await this.reconnect();
+      return this.#ask(line);
+    }, this.#to?.patience ?? PATIENCE));
   }
 
   /** Runs 1 to 256 calls, given as [procedure, argument, ..], on 1 to 16 threads at once. Answers a `Batch`; a refused call is a `Refused` in it. */
@@ -245,18 +312,19 @@ export class Client {
     return answers.map(({ reply }) => reply);
   }
 
-  /** Adds a node with a record of zeros below each of these nodes, and answers the number of the first one. Only a server that lasts does so. */
+  /** Adds a node with a record of zeros below each of these nodes, and answers the number of the first one. In session mode a server refuses it (901). */
   async grow(parents) {
     return (await this.#ask(`{"op":"grow","parents":${integers(parents)}}`)).grown;
   }
 
-  /** Seals the current epoch, and answers its number. A server with `--connections` refuses it with 606 while a call is unfinished, and with 808 in the last epoch. */
+  /** Seals the current epoch, and answers its number. In session mode a server refuses it with 606 while a call is unfinished, and with 808 in the last epoch. */
   async seal() {
     return (await this.#ask('{"op":"seal"}')).sealed;
   }
 
-  /** Ends the connection, once all requests before are answered. A connection that is closed stays so. */
+  /** Ends the connection, once all requests before are answered. A client that is closed stays so. */
   async close() {
+    this.#isClosed = true;
     if (this.#ended) return;
     try {
       await this.#ask('{"op":"close"}');
@@ -286,9 +354,9 @@ export class Client {
 
   // Requests may be sent one after another without waiting: their answers come in the same order.
   #ask(line) {
-    if (this.#ended) return Promise.reject(this.#ended);
+    if (this.#ended) return Promise.reject(new Disconnected(this.#ended));
     return new Promise((answered, failed) => {
-      const late = this.#timeout > 0 ? setTimeout(() => failed(new TimedOut()), this.#timeout) : undefined;
+      const late = this.#timeout > 0 ? setTimeout(() => failed(new TimedOut(undefined, { mayHaveRun: true })), this.#timeout) : undefined;
       const settle = (done) => (value) => {
         clearTimeout(late);
         done(value);
@@ -302,6 +370,7 @@ export class Client {
     const lines = (this.#rest + piece).split("\n");
     this.#rest = lines.pop();
     for (const line of lines) this.#answer(line);
+    if (this.#rest.length > MAX_ANSWER) this.#break("the answer is too long");
   }
 
   // Hands a line to the request that is waiting for it longest. One that isn't waited for any more is passed over.
@@ -309,9 +378,11 @@ export class Client {
     let answer;
     try {
       answer = answerOf(line);
-    } catch (reason) {
-      this.#end(new Disconnected("the server sent no JSON", { cause: reason }));
-      this.#socket.destroy();
+    } catch {
+      answer = null;
+    }
+    if (answer === null || typeof answer !== "object" || Array.isArray(answer)) {
+      this.#break("the server's answer isn't one");
       return;
     }
     const asked = this.#waiting.shift();
@@ -319,9 +390,99 @@ export class Client {
     else asked?.answered(answer);
   }
 
-  // From now on each request fails for this reason, also those that are waiting.
-  #end(reason) {
-    this.#ended ??= reason;
-    for (const { failed } of this.#waiting.splice(0)) failed(reason);
+  #break(reason) {
+    this.#end(new Disconnected(reason));
+    this.#socket.destroy();
   }
+
+  // From now on each request fails for this reason, also those that are waiting, which may have been done.
+  #end(reason) {
+    this.#ended ??= reason.reason;
+    for (const { failed } of this.#waiting.splice(0)) failed(reason.told(true));
+  }
+}
+
+/**
+ * Up to `size` connections, 4 if nothing is said: a request goes to one that answers none, or else to the one that has fewest to answer. The other words are those of
+ * `Client.connect`. A connection is made when it is first needed, and anew where it was lost. A server works at the requests of one connection one after another.
+ */
+export class Pool {
+  #to;
+  #size;
+  #places = [];
+  #isClosed = false;
+
+  constructor({ size = 4, ...to }) {
+    if (!Number.isInteger(size) || size < 1) throw new RangeError("a pool has one connection at least");
+    this.#to = to;
+    this.#size = size;
+  }
+
+  /** As `Client.call`. */
+  call(procedure, ...args) {
+    return this.#with((db) => db.call(procedure, ...args));
+  }
+
+  /** As `Client.callOnce`: also where the server can't be reached at first. */
+  callOnce(key, procedure, ...args) {
+    return untilAnswered(() => this.#with((db) => db.callOnce(key, procedure, ...args)), this.#to.patience ?? PATIENCE);
+  }
+
+  /** As `Client.batch`. */
+  batch(calls, workers) {
+    return this.#with((db) => db.batch(calls, workers));
+  }
+
+  /** As `Client.read`. */
+  read(node) {
+    return this.#with((db) => db.read(node));
+  }
+
+  /** Ends the connections, once all requests before are answered. A pool that is closed stays so. */
+  async close() {
+    this.#isClosed = true;
+    await Promise.all(this.#places.splice(0).map(async ({ client }) => (await client.catch(() => null))?.close()));
+  }
+
+  async #with(use) {
+    if (this.#isClosed) throw new Disconnected("the pool is closed");
+    const place = this.#place();
+    place.requests += 1;
+    try {
+      const db = await place.client;
+      if (!db.isOpen) await db.reconnect();
+      return await use(db);
+    } finally {
+      place.requests -= 1;
+    }
+  }
+
+  #place() {
+    const least = this.#places.reduce((one, other) => (one !== null && one.requests <= other.requests ? one : other), null);
+    if (least !== null && (least.requests === 0 || this.#places.length === this.#size)) return least;
+    const place = { requests: 0, client: Client.connect(this.#to) };
+    this.#places.push(place);
+    // One that can't be made is left out.
+    place.client.catch(() => { this.#places = this.#places.filter((it) => it !== place); });
+    return place;
+  }
+}
+
+// A socket that is connected.
+function opened({ timeout = TIMEOUT, connectTimeout = timeout, patience: _, ...address }) {
+  return new Promise((connected, failed) => {
+    const socket = net.connect(address);
+    const late = connectTimeout > 0 ? setTimeout(() => stop(new TimedOut("no connection in time")), connectTimeout) : undefined;
+    const stop = (reason) => {
+      clearTimeout(late);
+      socket.destroy();
+      failed(reason instanceof TreedbError ? reason : new Disconnected(reason.message || String(reason.code), { cause: reason }));
+    };
+    socket.once("error", stop);
+    socket.once("connect", () => {
+      clearTimeout(late);
+      socket.off("error", stop);
+      connected(socket);
+    });
+  });
 }

@@ -9,7 +9,7 @@ import test from "node:test";
 import { pathToFileURL } from "node:url";
 import * as treedb from "../treedb.mjs";
 
-const { Batch, Client, Disconnected, FAULTS, MissingNode, Refused, TimedOut, TreedbError } = treedb;
+const { Batch, Client, Disconnected, FAULTS, MissingNode, newKey, Pool, Refused, TimedOut, TreedbError, Unanswered } = treedb;
 
 // Serves connections whose lines are answered as `answering` says: with an object, a text as it is, or nothing. `lines` are those that came.
 async function serving(answering, use, path) {
@@ -231,7 +231,72 @@ test("a block closes the connection", async () => {
   assert.deepEqual(lines.slice(1), ['{"op":"close"}']);
 });
 
+test("what may have been done", async () => {
+  await assert.rejects(Client.connect({ path: "/there is no such socket" }), (lost) => lost instanceof Unanswered && !lost.mayHaveRun && /nothing was sent/.test(lost.message));
+  for (const answer of ["{\n", "[]\n", "null\n", undefined]) {
+    await serving(() => answer, async (to) => {
+      const db = await Client.connect({ ...to, timeout: 200, connectTimeout: 60_000 });
+      await assert.rejects(db.call("add", 1), (lost) => lost instanceof Unanswered && lost.mayHaveRun && /may have been done/.test(lost.message));
+      if (answer !== undefined) await assert.rejects(db.call("add", 1), (lost) => lost instanceof Disconnected && !lost.mayHaveRun);
+      // The answer to the call is still missing, so none is taken for that of the close.
+      await db.close().catch((late) => assert.ok(late instanceof TimedOut));
+    });
+  }
+});
+
+test("a call that is run once", async () => {
+  let tries = 0;
+  const [, lines] = await serving((line, peer) => {
+    tries += 1;
+    if (tries > 2) return { call: 7, reply: [5], stored: 2 };
+    peer.destroy();
+    return undefined;
+  }, async (to) => {
+    const db = await Client.connect(to);
+    assert.deepEqual(await db.callOnce(newKey(), "add", 0, 5), { call: 7, reply: [5n], stored: 2 });
+    assert.deepEqual(await Promise.all([db.callOnce("one", "add"), db.callOnce("two", "add")]).then((all) => all.length), 2);
+    await db.close();
+    await assert.rejects(db.callOnce("three", "add"), TreedbError);
+  });
+  assert.equal(new Set(lines.slice(0, 3)).size, 1);
+  assert.notEqual(newKey(), newKey());
+});
+
+test("a call that is asked for again until patience is over", async () => {
+  await serving((line, peer) => { peer.destroy(); }, async (to) => {
+    const db = await Client.connect({ ...to, patience: 200 });
+    await assert.rejects(db.callOnce("one", "add"), (lost) => lost instanceof Unanswered && lost.mayHaveRun);
+    await db.reconnect();
+    await assert.rejects(db.call("add"), Disconnected);
+  });
+});
+
+test("a pool", async () => {
+  let tries = 0;
+  const peers = new Set();
+  await serving((line, peer) => {
+    peers.add(peer);
+    tries += 1;
+    if (tries !== 5) return { call: tries, reply: [tries] };
+    peer.destroy();
+    return undefined;
+  }, async (to) => {
+    const pool = new Pool({ ...to, size: 2 });
+    assert.equal((await Promise.all([pool.call("add"), pool.call("add"), pool.call("add"), pool.call("add")])).length, 4);
+    assert.equal(peers.size, 2);
+    await assert.rejects(pool.call("add"), Disconnected);
+    assert.deepEqual((await pool.call("add")).reply, [6n]);
+    assert.deepEqual((await pool.callOnce("one", "add")).reply, [7n]);
+    await pool.close();
+    await assert.rejects(pool.call("add"), /closed/);
+  });
+  assert.throws(() => new Pool({ port: 1, size: 0 }), RangeError);
+  const nobody = new Pool({ path: "/there is no such socket", patience: 100 });
+  await assert.rejects(nobody.callOnce("one", "add"), Disconnected);
+  await nobody.close();
+});
+
 test("each name is declared for TypeScript", () => {
-  const declared = readFileSync(new URL("../treedb.d.mts", import.meta.url), "utf8").match(/^export (?:class|const) (\w+)/gm).map((it) => it.split(" ")[2]);
+  const declared = readFileSync(new URL("../treedb.d.mts", import.meta.url), "utf8").match(/^export (?:class|const|function) (\w+)/gm).map((it) => it.split(" ")[2]);
   assert.deepEqual(declared.sort(), Object.keys(treedb).sort());
 });

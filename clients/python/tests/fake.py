@@ -53,6 +53,9 @@ def serving(answering: Answering, path: str | None = None) -> Iterator[FakeServe
     try:
         yield server
     finally:
+        # Without it the thread that accepts would wait for ever, and keep a descriptor for its next peer.
+        with contextlib.suppress(OSError):
+            server.listener.shutdown(socket.SHUT_RDWR)
         server.listener.close()
 
 

@@ -154,7 +154,7 @@ class Failures(unittest.TestCase):
     def test_the_connection_is_reset(self):
         with serving(echo) as server:
             db = Client(port=server.port)
-            db._socket.shutdown(socket.SHUT_WR)
+            db._connection._socket.shutdown(socket.SHUT_WR)
             with self.assertRaises(ConnectionError) as lost:
                 db.call("add", 0, 1)
             self.assertIsInstance(lost.exception, Error)
@@ -209,7 +209,7 @@ class Seals(unittest.TestCase):
         self.assertEqual([request["op"] for request in server.heard], ["call", "call", "close"])
 
     def test_the_last_epoch_is_full(self):
-        with mock.patch.object(treedb.client, "PATIENCE", 0), serving(answers({"error": [603]}, {"error": [808]})) as server, \
+        with mock.patch.object(treedb.client, "SEAL_PATIENCE", 0), serving(answers({"error": [603]}, {"error": [808]})) as server, \
                 Client(port=server.port, seals=True) as db:
             with self.assertRaises(Exhausted):
                 db.call("add", 0, 1)
@@ -243,6 +243,20 @@ class Growth(unittest.TestCase):
             self.assertEqual([request.get("parents") for request in server.heard], [[1], [3], None])
             self.assertEqual(pathlib.Path(folder, "names.json").read_text(), '["", "north", "aisle 1", "aisle 9", "shelf 1"]\n')
             self.assertEqual(names["north/aisle 9/shelf 1"], 4)
+
+    def test_names_are_loaded_again(self):
+        """Beside the file of the tree as it was, which hasn't the nodes that were added."""
+        with tempfile.TemporaryDirectory() as folder:
+            tree = pathlib.Path(folder, "tree.json")
+            tree.write_text('{"parents": [0, 0, 1], "records": []}')
+            names = self.names(folder)
+            with serving(answers({"grown": 4}, {"grown": 5})) as server, Client(port=server.port) as db:
+                db.grow(names, ["north/aisle 9/shelf 1"])
+            again = Names.load(tree, pathlib.Path(folder, "names.json"))
+            self.assertEqual((again.names, dict(again)), (names.names, dict(names)))
+            tree.write_text('{"parents": [0, 0, 0], "records": []}')
+            with self.assertRaisesRegex(ValueError, "another tree"):
+                Names.load(tree, pathlib.Path(folder, "names.json"))
 
     def test_another_client_has_grown_the_tree(self):
         names = Names([0, 0], ["", "north"])

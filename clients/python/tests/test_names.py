@@ -53,7 +53,7 @@ class NamesOfNodes(unittest.TestCase):
             names = Names.load(tree, file)
             names.append(6, ["north/é"])
             self.assertEqual(json.loads(file.read_text(encoding="utf-8")), [*NAMES, "é"])
-            self.assertEqual(sorted(it.name for it in pathlib.Path(folder).iterdir()), ["names.json", "tree.json"])
+            self.assertEqual(sorted(it.name for it in pathlib.Path(folder).iterdir()), ["names.json", "names.json.parents", "tree.json"])
         with self.assertRaises(ValueError):
             names.append(6, ["west"])
 
@@ -82,11 +82,18 @@ class Tables(unittest.TestCase):
         self.assertEqual([line.split()[0] for line in shown(tree, names, 2)], ["2", "3", "4"])
         self.assertEqual(next(iter(shown(tree))), lines[0])
 
+    def test_a_long_path(self):
+        tree, _ = read_table(io.StringIO(f"path\n{'/'.join(['n'] * 3_000)}\n"))
+        self.assertEqual(tree["parents"], [0, *range(3_000)])
+
+    def test_a_name_with_signs_for_a_terminal(self):
+        self.assertEqual(next(iter(shown({"parents": [0], "records": [[0]]}, ["\x1b[2J"]))), "0 \\u001b[2J  [0]")
+
     def test_tables_that_are_none(self):
-        many = "path\n" + "".join(f"n{node}\n" for node in range(4_096))
+        many = "path\n" + "".join(f"n{node}\n" for node in range(65_535))
         for text, said in (("", "the first row"), ("path\nnorth,1,2,3,4,5,6,7,8,9\n", "at most 8 fields"), ("path,a\nnorth,x\n", "no integer"),
                            ("path,a\nnorth,9223372036854775808\n", "64 bits"), ("path,a\nnorth,1\nnorth/,2\n", "stands twice"),
-                           ("path,a,b,c,d,e,f,g,h,i\n", "the first row"), (many, "4096 nodes"), ("path\nnorth//a\n", "empty")):
+                           ("path,a,b,c,d,e,f,g,h,i\n", "the first row"), (many, "65535 nodes"), ("path\nnorth//a\n", "empty")):
             with self.subTest(text[:30]), self.assertRaisesRegex(ValueError, said):
                 read_table(io.StringIO(text))
 

@@ -72,11 +72,11 @@ class Texts(unittest.TestCase):
 
 
 class ControlPorts(unittest.TestCase):
-    TOLD = {"epoch": 3, "generation": 1, "calls": 9, "connections": 2, "nodes": 40, "procedures": 4}
+    TOLD = {"epoch": 3, "generation": 1, "calls": 9, "connections": 2, "nodes": 40, "procedures": 4, "refusals": 0, "places": 256, "browsers": 0}
 
     def test_status(self):
         with serving(lambda line: self.TOLD) as server:
-            self.assertEqual(treedb.status(port=server.port), Status(3, 1, 9, 2, 40, 4))
+            self.assertEqual(treedb.status(port=server.port), Status(3, 1, 9, 2, 40, 4, 0, 256, 0))
         self.assertEqual(server.heard, [b"status\n"])
 
     def test_status_by_a_socket(self):

@@ -15,7 +15,7 @@ stands in the place of the answer. The connection stays open after a refusal. `D
 
 After one of these nobody knows whether a call was done. `call(.., key=..)` can be asked again: a server with a store runs it once.
 
-A server without `--connections` seals its epochs by itself. One with it leaves that to its clients: `Client(.., seals=True)` seals where it has to be
+A server seals its epochs by itself. In session mode (`--connections`) it leaves that to its clients: `Client(.., seals=True)` seals where it has to be
 done, until `Exhausted` says that the server has no epoch left. `docs/use/server.md` has the lines that go to and fro, so that a client in another
 language can do the same; `docs/use/faults.md` has all numbers.
 """
@@ -23,13 +23,14 @@ language can do the same; `docs/use/faults.md` has all numbers.
 from .aio import AsyncClient
 from .client import Client
 from .control import Status, snapshot, status, stop
-from .errors import Disconnected, Error, Exhausted, MissingNode, Refused, TimedOut
+from .errors import Disconnected, Error, Exhausted, MissingNode, Refused, TimedOut, Unanswered
 from .faults import FAULTS
 from .names import Names
-from .protocol import Answer, Batch, Bounds, Recalled
+from .pool import Pool
+from .protocol import Answer, Batch, Bounds, Recalled, new_key
 from .stores import write_names
 from .texts import script
 
-__all__ = ["FAULTS", "Answer", "AsyncClient", "Batch", "Bounds", "Client", "Disconnected", "Error", "Exhausted", "MissingNode", "Names", "Recalled",
-           "Refused", "Status", "TimedOut", "script", "snapshot", "status", "stop", "write_names"]
+__all__ = ["FAULTS", "Answer", "AsyncClient", "Batch", "Bounds", "Client", "Disconnected", "Error", "Exhausted", "MissingNode", "Names", "Pool", "Recalled",
+           "Refused", "Status", "TimedOut", "Unanswered", "new_key", "script", "snapshot", "status", "stop", "write_names"]
 __version__ = "0.1.0"

@@ -9,7 +9,7 @@ from typing import Any
 
 from . import __version__
 from .stores import write_names
-from .tables import read_table, shown, write_table
+from .tables import USUAL_NODES, read_table, shown, write_table
 
 
 def from_table(words: argparse.Namespace) -> None:
@@ -22,6 +22,8 @@ def from_table(words: argparse.Namespace) -> None:
         json.dump(names, file, ensure_ascii=False)
         file.write("\n")
     print(f"{len(names)} nodes")
+    if len(names) > USUAL_NODES:
+        print(f"treedb-tables: treedb takes trees of more than {USUAL_NODES} nodes with --nodes {len(names)}", file=sys.stderr)
 
 
 def to_table(words: argparse.Namespace) -> None:

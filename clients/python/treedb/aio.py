@@ -9,17 +9,14 @@ import os
 from collections.abc import Iterable
 from typing import Any
 
-from .connection import LOOPBACK, address_of, spoken
-from .errors import Disconnected, Refused, TimedOut
+from .connection import LOOPBACK, MAX_ANSWER, PATIENCE, TIMEOUT, Address, address_of, pauses, spoken
+from .errors import Disconnected, Refused, TimedOut, Unanswered
 from .names import Names
 from .protocol import (MAX_BATCH, NAME_TAKEN, READER, READER_TEXT, Answer, Batch, Bounds, Call, answer_of, batch_in, batch_request, call_in, call_request,
-                       grow_request, line_of, records_in, register_request, registered_in, replace_request, text_request, wanted, with_place)
+                       grow_request, line_of, new_key, records_in, register_request, registered_in, replace_request, text_request, wanted, with_place)
 from .texts import file_request
 
 __all__ = ["AsyncClient"]
-
-# A longer line is none that a server answers.
-MAX_ANSWER = 2**24
 
 
 class AsyncClient:
@@ -31,9 +28,14 @@ class AsyncClient:
     It doesn't seal by a rule as `Client(.., seals=True)` does: that is for servers with `--connections`.
     """
 
-    def __init__(self, reader: asyncio.StreamReader, writer: asyncio.StreamWriter, timeout: float | None = None) -> None:
-        """Takes over the streams of a connection; `connect` makes them."""
-        self._reader, self._writer, self._timeout = reader, writer, timeout
+    def __init__(self, reader: asyncio.StreamReader, writer: asyncio.StreamWriter, timeout: float | None = TIMEOUT, address: Address | None = None) -> None:
+        """Takes over the streams of a connection; `connect` makes them, and says where they lead."""
+        self._timeout, self._address, self._is_closed = timeout, address, False
+        self._opening = asyncio.Lock()
+        self._take_over(reader, writer)
+
+    def _take_over(self, reader: asyncio.StreamReader, writer: asyncio.StreamWriter) -> None:
+        self._reader, self._writer = reader, writer
         # The requests that were sent and aren't answered, in their order.
         self._waiting: collections.deque[asyncio.Future[bytes]] = collections.deque()
         self._writing = asyncio.Lock()
@@ -44,21 +46,21 @@ class AsyncClient:
 
     @classmethod
     async def connect(cls, host: str = LOOPBACK, port: int | None = None, *, path: str | os.PathLike[str] | None = None,
-                      timeout: float | None = None) -> AsyncClient:
+                      timeout: float | None = TIMEOUT) -> AsyncClient:
         """Connects to a port, or to the Unix socket of a path. A server that can't be reached is `Disconnected`.
 
         `timeout` is in seconds, for each answer; None waits as long as it takes. After a `TimedOut` the connection goes on: the late answer is passed over.
         """
         address = address_of(host, port, path)
-        opening = (asyncio.open_unix_connection(address, limit=MAX_ANSWER) if isinstance(address, str)
-                   else asyncio.open_connection(*address, limit=MAX_ANSWER))
-        try:
-            reader, writer = await asyncio.wait_for(opening, timeout)
-        except asyncio.TimeoutError as late:
-            raise TimedOut(f"{spoken(address)}: no connection in time") from late
-        except OSError as failed:
-            raise Disconnected(f"{spoken(address)}: {failed}") from failed
-        return cls(reader, writer, timeout)
+        return cls(*await _opened(address, timeout), timeout, address)
+
+    async def reconnect(self) -> None:
+        """Connects anew to where the client was made for, if there is no connection. After `close` it doesn't: that is a `ValueError`."""
+        async with self._opening:
+            if self._is_closed or self._address is None:
+                raise ValueError("the client is closed, or was made without an address")
+            if self._ended is not None:
+                self._take_over(*await _opened(self._address, self._timeout))
 
     async def register(self, name: str, text: str) -> Bounds:
         """Registers an assembler text under a name, and returns its `Bounds`."""
@@ -79,6 +81,21 @@ class AsyncClient:
     async def call(self, procedure: str, *arguments: int, key: str | None = None) -> Answer:
         """Runs a call to its end, and returns its `Answer`. With a `key` it is run once, as by `Client.call`."""
         return call_in(await self._ask(call_request(procedure, arguments, key)))
+
+    async def call_once(self, procedure: str, *arguments: int, key: str | None = None, patience: float = PATIENCE) -> Answer:
+        """Runs a call to its end once, also where its answer is lost, as `Client.call_once` does."""
+        wanted_key, waits, may_have_run = new_key() if key is None else key, pauses(patience), False
+        while True:
+            try:
+                if self._ended is not None:
+                    await self.reconnect()
+                return await self.call(procedure, *arguments, key=wanted_key)
+            except Unanswered as lost:
+                lost.may_have_run = may_have_run = may_have_run or lost.may_have_run
+                pause = next(waits, None)
+                if pause is None:
+                    raise
+            await asyncio.sleep(pause)
 
     async def batch(self, calls: Iterable[Call], workers: int = 1) -> Batch:
         """Runs 1 to 256 calls, given as (procedure, argument, ..), on 1 to 16 threads at once, as `Client.batch` does."""
@@ -109,7 +126,8 @@ class AsyncClient:
         return sealed
 
     async def close(self) -> None:
-        """Ends the connection once all requests before are answered. A connection that is closed stays so."""
+        """Ends the connection once all requests before are answered. A client that is closed stays so."""
+        self._is_closed = True
         try:
             if self._ended is None:
                 await self._ask({"op": "close"})
@@ -123,6 +141,7 @@ class AsyncClient:
         if kind is None:
             await self.close()
         else:
+            self._is_closed = True
             await self._hang_up()
 
     async def _register(self, request: dict[str, Any]) -> dict[str, Bounds]:
@@ -164,9 +183,15 @@ class AsyncClient:
         self._waiting.append(answer)
         self._writer.write(line)
         try:
-            return answer_of(await asyncio.wait_for(self._sent(answer), self._timeout))
+            answered = await asyncio.wait_for(self._sent(answer), self._timeout)
         except asyncio.TimeoutError as late:
-            raise TimedOut("no answer in time") from late
+            raise TimedOut("no answer in time", may_have_run=True) from late
+        try:
+            return answer_of(answered)
+        except Disconnected as wrong:
+            self._end(wrong.reason)
+            self._writer.close()
+            raise
 
     async def _sent(self, answer: asyncio.Future[bytes]) -> bytes:
         """The answer, once the request is on its way."""
@@ -198,8 +223,20 @@ class AsyncClient:
         self._ended = self._ended or reason
         for answer in self._waiting:
             if not answer.done():
-                answer.set_exception(Disconnected(reason))
+                answer.set_exception(Disconnected(reason, may_have_run=True))
         self._waiting.clear()
+
+
+async def _opened(address: Address, timeout: float | None) -> tuple[asyncio.StreamReader, asyncio.StreamWriter]:
+    """The streams of a new connection."""
+    opening = (asyncio.open_unix_connection(address, limit=MAX_ANSWER) if isinstance(address, str)
+               else asyncio.open_connection(*address, limit=MAX_ANSWER))
+    try:
+        return await asyncio.wait_for(opening, timeout)
+    except asyncio.TimeoutError as late:
+        raise TimedOut(f"{spoken(address)}: no connection in time") from late
+    except OSError as failed:
+        raise Disconnected(f"{spoken(address)}: {failed}") from failed
 
 
 async def _in_thread(do: Any, *arguments: Any) -> Any:

@@ -3,16 +3,15 @@
 from __future__ import annotations
 
 import os
-import socket
 import time
 from collections.abc import Iterable
 from typing import Any
 
-from .connection import LOOPBACK, address_of, connected
-from .errors import Disconnected, Exhausted, Refused, TimedOut
+from .connection import LOOPBACK, PATIENCE, TIMEOUT, Connection, address_of, until_answered
+from .errors import Disconnected, Exhausted, Refused
 from .names import Names
 from .protocol import (MAX_BATCH, NAME_TAKEN, READER, READER_TEXT, Answer, Batch, Bounds, Call, Outcome, answer_of, batch_in, batch_request, call_in,
-                       call_request, grow_request, line_of, records_in, register_request, registered_in, replace_request, text_request, wanted, with_place)
+                       call_request, grow_request, line_of, new_key, records_in, register_request, registered_in, replace_request, text_request, wanted, with_place)
 from .texts import file_request
 
 __all__ = ["Client"]
@@ -20,29 +19,30 @@ __all__ = ["Client"]
 # The last call of an epoch: there are 4,096.
 LAST_CALL = 4_095
 # How many seconds a client waits for the seal of another one, and how long it waits before it asks once more.
-PATIENCE = 5.0
+SEAL_PATIENCE = 5.0
 PAUSE = 0.01
 
 
 class Client:
     """A connection to a server. It can be used in a `with`, which closes it. One thread uses it at a time."""
 
-    def __init__(self, host: str | int = LOOPBACK, port: int | str | None = None, timeout: float | None = None, seals: bool = False,
+    def __init__(self, host: str | int = LOOPBACK, port: int | str | None = None, timeout: float | None = TIMEOUT, seals: bool = False,
                  *, path: str | os.PathLike[str] | None = None) -> None:
         """Connects to a port, or to the Unix socket of a path. A server that can't be reached is `Disconnected`.
 
-        `timeout` is in seconds, for each answer; None waits as long as it takes. After a `TimedOut` the connection is closed, since the late answer would be
-        taken for that of the next request.
+        `timeout` is in seconds, for each answer as a whole; None waits as long as it takes. After a `TimedOut`, and after any other exception that comes between a
+        request and its answer, as Ctrl-C does, the connection is closed, since the late answer would be taken for that of the next request.
 
-        `seals` is for a server with `--connections`, which leaves it to its clients to seal an epoch. The client that gets the last call of an epoch
+        `seals` is for a server in session mode (`--connections`), which leaves it to its clients to seal an epoch. The client that gets the last call of an epoch
         seals it. Exactly one client gets it, so no two seal at once where all clients of a server do so. A client that finds an epoch full
         waits for that, and asks again. Where nobody seals for seconds, or the epoch has room for calls but not for all that this one may do,
-        it seals the epoch itself. Any other server never refuses a call for a full epoch, so `seals` changes none of its answers.
+        it seals the epoch itself. Outside of session mode a server never refuses a call for a full epoch, so `seals` changes none of its answers.
         """
         self._seals = seals
         self._reads = False
-        self._socket: socket.socket | None = connected(address_of(host, port, path), timeout)
-        self._answers = self._socket.makefile("rb")
+        self._address, self._timeout = address_of(host, port, path), timeout
+        self._is_closed = False
+        self._connection = Connection(self._address, timeout)
 
     def register(self, name: str, text: str) -> Bounds:
         """Registers an assembler text under a name, and returns its `Bounds`."""
@@ -51,7 +51,7 @@ class Client:
     def register_text(self, text: str) -> dict[str, Bounds]:
         """Registers all procedures of a text of the procedure language, or none, and returns their `Bounds` by name, in the order of the text.
 
-        A server with `--connections` doesn't take such texts: 901.
+        In session mode (`--connections`) a server doesn't take such texts: 901.
         """
         return self._register(text_request(text))
 
@@ -67,7 +67,7 @@ class Client:
         """Puts all procedures of a text of the procedure language in the place of those with their names, or none, and returns their `Bounds` by name.
 
         Calls that are answered before run the old code, and calls that are asked for after the answer run the new one. It is 601 if one of the names has no
-        procedure yet. Only a server that lasts knows this; any other refuses with 901.
+        procedure yet. In session mode a server refuses with 901.
         """
         return self._register(replace_request(text))
 
@@ -89,6 +89,21 @@ class Client:
             else:
                 self._seal_behind([answer])
                 return answer
+
+    def call_once(self, procedure: str, *arguments: int, key: str | None = None, patience: float = PATIENCE) -> Answer:
+        """Runs a call to its end once, also where its answer is lost, and returns its `Answer`.
+
+        It has a key, a new one where none is given. After a `Disconnected` or a `TimedOut` the client connects again, with growing pauses, and asks again with the same key: for
+        `patience` seconds, and then it raises the last of them. A server without a store refuses it with 1015.
+        """
+        wanted_key = new_key() if key is None else key
+
+        def ask() -> Answer:
+            if not self.is_open:
+                self.reconnect()
+            return self.call(procedure, *arguments, key=wanted_key)
+
+        return until_answered(ask, patience)
 
     def batch(self, calls: Iterable[Call], workers: int = 1) -> Batch:
         """Runs 1 to 256 calls, given as (procedure, argument, ..), on 1 to 16 threads at once.
@@ -128,8 +143,8 @@ class Client:
     def grow(self, names: Names, paths: Iterable[str]) -> list[int]:
         """Adds a node for each of these paths, as `north/aisle 9`, and for each one above it that isn't there. Returns their numbers, in order.
 
-        The new records are zeros. `names` gets the new names after the answer, and so does the file that they were loaded from. Only a server that lasts
-        grows; any other refuses with 901. A path that stands there already is a `ValueError`, and nothing is asked then. If the connection
+        The new records are zeros. `names` gets the new names after the answer, and so does the file that they were loaded from. In session mode a server
+        refuses with 901. A path that stands there already is a `ValueError`, and nothing is asked then. If the connection
         ends before the answer, nodes may be there that have no name.
 
         It is one request for the paths of each depth, since the numbers of new nodes are known by the answer alone. Each is a generation of its own, so
@@ -143,19 +158,35 @@ class Client:
     def seal(self) -> int:
         """Seals the current epoch, and returns its number. Calls go on in the next one, on the tree as it is.
 
-        A server with `--connections` refuses it with 606 while a call is unfinished, and with 808 in the last epoch.
+        In session mode a server refuses it with 606 while a call is unfinished, and with 808 in the last epoch.
         """
         sealed: int = self._ask({"op": "seal"})["sealed"]
         return sealed
 
+    @property
+    def is_open(self) -> bool:
+        """Whether there is a connection, as far as this client knows."""
+        return self._connection.is_open
+
+    def is_idle(self) -> bool:
+        """Whether there is a connection that the server hasn't ended, and no answer on it that nobody has asked for."""
+        return self._connection.is_idle()
+
+    def reconnect(self) -> None:
+        """Connects anew to where the client was made for. After `close` it doesn't: that is a `ValueError`."""
+        if self._is_closed:
+            raise ValueError("the client is closed")
+        self._connection.close()
+        self._connection = Connection(self._address, self._timeout)
+
     def close(self) -> None:
-        """Ends the connection. A connection that is closed stays so."""
-        if self._socket is None:
-            return
-        try:
-            self._ask({"op": "close"})
-        finally:
-            self._hang_up()
+        """Ends the connection. A client that is closed stays so."""
+        self._is_closed = True
+        if self._connection.is_open:
+            try:
+                self._ask({"op": "close"})
+            finally:
+                self._connection.close()
 
     def __enter__(self) -> Client:
         return self
@@ -165,7 +196,8 @@ class Client:
         if kind is None:
             self.close()
         else:
-            self._hang_up()
+            self._is_closed = True
+            self._connection.close()
 
     def _register(self, request: dict[str, Any]) -> dict[str, Bounds]:
         try:
@@ -195,7 +227,7 @@ class Client:
 
     def _go_on(self, refusal: Any, began: float) -> None:
         """Waits for the seal of the client that got the epoch's last call, or seals the epoch."""
-        if refusal.number == 603 and time.monotonic() < began + PATIENCE:
+        if refusal.number == 603 and time.monotonic() < began + SEAL_PATIENCE:
             time.sleep(PAUSE)
             return
         try:
@@ -222,28 +254,11 @@ class Client:
                     raise
                 time.sleep(PAUSE)
 
-    def _hang_up(self) -> None:
-        if self._socket is not None:
-            self._answers.close()
-            self._socket.close()
-            self._socket = None
-
     def _ask(self, request: dict[str, Any]) -> dict[str, Any]:
-        """Sends a request, and returns its answer; raises `Refused` for a refusal. After any other failure it hangs up."""
-        if self._socket is None:
-            raise Disconnected("the connection is closed")
-        line = line_of(request)
+        """Sends a request, and returns its answer; raises `Refused` for a refusal. After any other failure there is no connection."""
+        answer = self._connection.ask(line_of(request))
         try:
-            self._socket.sendall(line)
-            answer = self._answers.readline()
-        except socket.timeout as late:
-            self._hang_up()
-            raise TimedOut("no answer in time") from late
-        except OSError as lost:
-            self._hang_up()
-            raise Disconnected(f"the connection is lost: {lost}") from lost
-        if not answer.endswith(b"\n"):
-            self._hang_up()
-            raise Disconnected("the server ended the connection")
-        return answer_of(answer)
-
+            return answer_of(answer)
+        except Disconnected:
+            self._connection.close()
+            raise

@@ -3,21 +3,16 @@
 from __future__ import annotations
 
 import os
-import socket
 from typing import Any, NamedTuple
 
-from .connection import LOOPBACK, Address, address_of, connected
-from .errors import Disconnected, TimedOut
+from .connection import LOOPBACK, TIMEOUT, Address, Connection, address_of
 from .protocol import answer_of
 
 __all__ = ["Status", "snapshot", "status", "stop"]
 
-# An answer has fewer bytes.
-MAX_ANSWER = 4_096
-
 
 class Status(NamedTuple):
-    """What a server that lasts says of itself."""
+    """What a server says of itself."""
 
     epoch: int
     """the number of the current epoch"""
@@ -30,16 +25,22 @@ class Status(NamedTuple):
     nodes: int
     """the nodes of the tree"""
     procedures: int
-    """the procedures that are registered"""
+    """the procedures that there are"""
+    refusals: int = 0
+    """the requests and calls that were refused"""
+    places: int = 0
+    """how many connections may be open at once"""
+    browsers: int = 0
+    """the connections that a browser opened, which were ended"""
 
 
-def status(host: str = LOOPBACK, port: int | None = None, *, path: str | os.PathLike[str] | None = None, timeout: float | None = None) -> Status:
-    """What a server that lasts says of itself, asked on its control port or control socket. Any other server refuses with 901."""
+def status(host: str = LOOPBACK, port: int | None = None, *, path: str | os.PathLike[str] | None = None, timeout: float | None = TIMEOUT) -> Status:
+    """What a server says of itself, asked on its control port or control socket. In session mode it refuses with 901."""
     answer = _told("status", address_of(host, port, path), timeout)
-    return Status(**{field: answer[field] for field in Status._fields})
+    return Status(**{field: answer[field] for field in Status._fields if field in answer})
 
 
-def snapshot(name: str, host: str = LOOPBACK, port: int | None = None, *, path: str | os.PathLike[str] | None = None, timeout: float | None = None) -> None:
+def snapshot(name: str, host: str = LOOPBACK, port: int | None = None, *, path: str | os.PathLike[str] | None = None, timeout: float | None = TIMEOUT) -> None:
     """Has a server with a store copy it into the file of that name, in the folder of its `--snapshots`: 1 to 64 ASCII letters, digits, `_` or `-`, and then `.db`. The copy is whole when
     this returns. A name that isn't such, or that a file has, is refused with 1010, and a server that makes no copies with 901."""
     if "\n" in name:
@@ -47,21 +48,15 @@ def snapshot(name: str, host: str = LOOPBACK, port: int | None = None, *, path: 
     _told(f"snapshot {name}", address_of(host, port, path), timeout)
 
 
-def stop(host: str = LOOPBACK, port: int | None = None, *, path: str | os.PathLike[str] | None = None, timeout: float | None = None) -> None:
+def stop(host: str = LOOPBACK, port: int | None = None, *, path: str | os.PathLike[str] | None = None, timeout: float | None = TIMEOUT) -> None:
     """Asks a server to end, on its control port or control socket. It answers what it has read, and then ends."""
     _told("stop", address_of(host, port, path), timeout)
 
 
 def _told(word: str, address: Address, timeout: float | None) -> dict[str, Any]:
     """The answer to a word on the control port."""
-    with connected(address, timeout) as peer:
-        try:
-            peer.sendall(f"{word}\n".encode())
-            answer = peer.makefile("rb").readline(MAX_ANSWER)
-        except socket.timeout as late:
-            raise TimedOut("no answer in time") from late
-        except OSError as lost:
-            raise Disconnected(f"the connection is lost: {lost}") from lost
-    if not answer.endswith(b"\n"):
-        raise Disconnected("the server ended the connection")
-    return answer_of(answer)
+    connection = Connection(address, timeout)
+    try:
+        return answer_of(connection.ask(f"{word}\n".encode()))
+    finally:
+        connection.close()

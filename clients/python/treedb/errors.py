@@ -6,7 +6,7 @@ from collections.abc import Iterable
 
 from .faults import FAULTS
 
-__all__ = ["Disconnected", "Error", "Exhausted", "MissingNode", "Refused", "TimedOut"]
+__all__ = ["Disconnected", "Error", "Exhausted", "MissingNode", "Refused", "TimedOut", "Unanswered"]
 
 
 class Error(Exception):
@@ -37,12 +37,26 @@ class Exhausted(Error):
     `--connections` goes on by itself."""
 
 
-class Disconnected(Error, ConnectionError):
-    """There is no connection: the server can't be reached, or the connection ended before the answer. A call that was sent may have been done."""
+class Unanswered(Error):
+    """The base of `Disconnected` and `TimedOut`: a request has no answer.
+
+    `may_have_run` says whether the request may have been done all the same. Where it is False, nothing was sent, and asking again does no harm.
+    """
+
+    def __init__(self, reason: str, may_have_run: bool = False) -> None:
+        super().__init__(reason)
+        self.reason, self.may_have_run = reason, may_have_run
+
+    def __str__(self) -> str:
+        return f"{self.reason} ({'it may have been done' if self.may_have_run else 'nothing was sent'})"
 
 
-class TimedOut(Error, TimeoutError):
-    """The answer didn't come in time. A call that was sent may have been done."""
+class Disconnected(Unanswered, ConnectionError):
+    """There is no connection: the server can't be reached, or the connection ended before the answer."""
+
+
+class TimedOut(Unanswered, TimeoutError):
+    """The answer didn't come in time."""
 
 
 class MissingNode(Error, IndexError):

@@ -9,9 +9,14 @@ import json
 import os
 from collections.abc import Iterable, Iterator, Mapping
 
-__all__ = ["SEPARATOR", "Names"]
+__all__ = ["SEPARATOR", "Names", "printable"]
 
 SEPARATOR = "/"
+
+
+def printable(name: str) -> str:
+    """A name for a terminal, which takes some characters for commands."""
+    return "".join(letter if letter.isprintable() else f"\\u{ord(letter):04x}" for letter in name)
 
 
 class Names(Mapping[str, int]):
@@ -35,9 +40,17 @@ class Names(Mapping[str, int]):
 
     @classmethod
     def load(cls, tree: str | os.PathLike[str], names: str | os.PathLike[str]) -> Names:
-        """The names of two files: a tree, and a list of names. The second file gets the names that are added later."""
+        """The names of two files: a tree, and a list of names. The second file gets the names that are added later, and a file beside it, whose name ends with `.parents`, the parents of all nodes: so
+        both may be loaded again, though the tree's file hasn't the nodes that were added."""
         with open(tree, encoding="utf-8") as tree_file, open(names, encoding="utf-8") as names_file:
-            return cls(json.load(tree_file)["parents"], json.load(names_file), names)
+            parents, listed = json.load(tree_file)["parents"], json.load(names_file)
+        if len(listed) > len(parents) and os.path.exists(_parents_file(names)):
+            with open(_parents_file(names), encoding="utf-8") as parents_file:
+                grown = json.load(parents_file)
+            if grown[: len(parents)] != parents:
+                raise ValueError(f"{_parents_file(names)} is of another tree")
+            parents = grown[: len(listed)]
+        return cls(parents, listed, names)
 
     def path(self, node: int) -> str:
         """The path of a node. The root's is empty. A node that isn't there, or has no path, is a `ValueError`."""
@@ -86,7 +99,7 @@ class Names(Mapping[str, int]):
         """Names new nodes, which are numbered from `first` on, and writes the file. Nodes before `first` that are new here have no name: another client has
         added them, and names them in its own file.
 
-        The file is replaced as a whole, so it never has a part of the names.
+        Both files are replaced as a whole, so they never have a part, and the names last, so there are never more of them than parents.
         """
         if first < len(self.names):
             raise ValueError(f"node {first} is there already")
@@ -97,7 +110,8 @@ class Names(Mapping[str, int]):
         for node in range(len(self._paths), len(self.names)):
             self._add(node)
         if self.file is not None:
-            self._write(os.fspath(self.file))
+            _write(_parents_file(self.file), self.parents)
+            _write(os.fspath(self.file), self.names)
 
     def _add(self, node: int) -> None:
         """Takes up the path of the next node."""
@@ -120,11 +134,16 @@ class Names(Mapping[str, int]):
             return None
         return f"{above}{SEPARATOR}{name}" if above else name
 
-    def _write(self, file: str) -> None:
-        part = f"{file}.part"
-        with open(part, "w", encoding="utf-8") as written:
-            json.dump(self.names, written, ensure_ascii=False)
-            written.write("\n")
-            written.flush()
-            os.fsync(written.fileno())
-        os.replace(part, file)
+
+def _parents_file(names: str | os.PathLike[str]) -> str:
+    return f"{os.fspath(names)}.parents"
+
+
+def _write(file: str, value: list[int] | list[str]) -> None:
+    part = f"{file}.part"
+    with open(part, "w", encoding="utf-8") as written:
+        json.dump(value, written, ensure_ascii=False)
+        written.write("\n")
+        written.flush()
+        os.fsync(written.fileno())
+    os.replace(part, file)

@@ -4,10 +4,11 @@ from __future__ import annotations
 
 import json
 import operator
+import secrets
 from collections.abc import Iterable, Sequence
 from typing import Any, NamedTuple, Union
 
-from .errors import Exhausted, MissingNode, Refused
+from .errors import Disconnected, Exhausted, MissingNode, Refused
 
 # The procedure by which a client reads records: it emits the eight fields of a node.
 READER = "treedb_read"
@@ -75,11 +76,21 @@ def line_of(request: dict[str, Any]) -> bytes:
 
 
 def answer_of(line: bytes) -> dict[str, Any]:
-    """The answer of a line; raises `Refused` for a refusal."""
-    answer: dict[str, Any] = json.loads(line)
-    if "error" in answer:
-        raise Refused(answer["error"])
+    """The answer of a line; raises `Refused` for a refusal, and `Disconnected` where it is no answer."""
+    try:
+        answer: dict[str, Any] = json.loads(line)
+        if "error" in answer:
+            raise Refused(map(operator.index, answer["error"]))
+    except (ValueError, TypeError, IndexError, RecursionError) as wrong:
+        raise Disconnected("the server's answer isn't one", may_have_run=True) from wrong
+    if not isinstance(answer, dict):
+        raise Disconnected("the server's answer isn't one", may_have_run=True)
     return answer
+
+
+def new_key() -> str:
+    """A key for a call that no other call has: 128 bits by chance."""
+    return secrets.token_hex(16)
 
 
 def arguments_of(arguments: Iterable[Any]) -> list[int]:

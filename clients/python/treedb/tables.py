@@ -9,12 +9,13 @@ import csv
 from collections.abc import Iterable, Iterator
 from typing import Any, TextIO
 
-from .names import SEPARATOR, Names
+from .names import SEPARATOR, Names, printable
 
-__all__ = ["read_table", "shown", "write_table"]
+__all__ = ["USUAL_NODES", "read_table", "shown", "write_table"]
 
 WIDTH = 8
-MAX_NODES = 4_096
+# So many a tree has at most, with the option `--nodes`; without it so many.
+MAX_NODES, USUAL_NODES = 65_535, 4_096
 
 
 def read_table(table: TextIO) -> tuple[dict[str, Any], list[str]]:
@@ -49,17 +50,21 @@ def read_table(table: TextIO) -> tuple[dict[str, Any], list[str]]:
 
 def _node_of(path: str, nodes: dict[str, int], parents: list[int], names: list[str], records: list[list[int]]) -> int:
     """The node of a path. It is made with those above it where they aren't there."""
-    if path in nodes:
-        return nodes[path]
-    above, _, name = path.rpartition(SEPARATOR)
-    parent = _node_of(above, nodes, parents, names, records)
-    if len(parents) == MAX_NODES:
-        raise ValueError(f"a tree has at most {MAX_NODES} nodes")
-    nodes[path] = len(parents)
-    parents.append(parent)
-    names.append(name)
-    records.append([0] * WIDTH)
-    return nodes[path]
+    missing = []
+    while path not in nodes:
+        above, _, name = path.rpartition(SEPARATOR)
+        missing.append((path, name))
+        path = above
+    node = nodes[path]
+    for below, name in reversed(missing):
+        if len(parents) == MAX_NODES:
+            raise ValueError(f"a tree has at most {MAX_NODES} nodes")
+        nodes[below] = len(parents)
+        parents.append(node)
+        names.append(name)
+        records.append([0] * WIDTH)
+        node = nodes[below]
+    return node
 
 
 def _number(text: str, line: int) -> int:
@@ -94,7 +99,7 @@ def shown(tree: dict[str, Any], names: list[str] | None = None, top: int = 0) ->
     waiting = [(top, 0)]
     while waiting:
         node, depth = waiting.pop()
-        name = f" {names[node]}" if names and names[node] else ""
+        name = f" {printable(names[node])}" if names and names[node] else ""
         fields = ", ".join(map(str, tree["records"][node]))
         yield f"{'  ' * depth}{node}{name}  [{fields}]"
         waiting.extend((child, depth + 1) for child in reversed(children[node]))

@@ -1,0 +1,3 @@
+module treedb
+
+go 1.19
