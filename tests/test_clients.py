@@ -15,7 +15,8 @@ import tempfile
 import unittest
 
 import treedb
-from running import PATIENCE, TOP, fixture, raises, skip, tool
+import treedb.reading
+from running import PATIENCE, TOP, Threads, fixture, raises, skip, tool
 
 PYTHON, JAVASCRIPT = TOP / "clients/python", TOP / "clients/javascript"
 ADD = (TOP / "examples/add.asm").read_text()
@@ -182,6 +183,53 @@ def test_keys(tests, server):
         db.call("add", 0, 1, key="one")
 
 
+def test_a_call_that_is_run_once_beside_a_kill(tests, server):
+    """It is asked for while no server is there, and run by the next start, once."""
+    it = server("--store", "things.db", connections=None)
+    with treedb.Pool(port=it.port, timeout=PATIENCE) as pool, treedb.Client(port=it.port, timeout=PATIENCE) as db:
+        db.register("add", ADD)
+        tests.same("a call", pool.call_once("add", 0, 1, key="one").reply, [6])
+        it.kill()
+        said = []
+        later = Threads(*((lambda by=by: said.append(by.call_once("add", 0, 1, key="one", patience=PATIENCE)),) for by in (pool, db)))
+        server("--store", "things.db", connections=None, tree=None, port=it.port)
+        later.join()
+        tests.same("after the next start", said, [treedb.Recalled(0, [6], 0)] * 2)
+        tests.same("the record", db.read(0)[0], 6)
+
+
+def python(tests, *words, typed=""):
+    """The exit status of a program of the package, what it prints, and what it says to people."""
+    done = subprocess.run([sys.executable, "-m", *map(str, words)], cwd=tests.folder, env={"PYTHONPATH": str(PYTHON)}, input=typed, capture_output=True, text=True, timeout=PATIENCE, check=False)
+    return done.returncode, done.stdout, done.stderr
+
+
+def test_the_shell(tests, server):
+    tests.path("names.json").write_text(json.dumps(["", "north", "aisle 1"]))
+    it = server(tree=THREE, connections=None)
+    words = ["treedb.shell", "--port", it.port, "--control", it.control, "--tree", THREE, "--names", "names.json"]
+    tests.same("a script", python(tests, *words, typed='register examples/add.asm\ncall add "north/aisle 1" 3\nls north\n'),
+               (0, "add(..)  at most 7 steps, 1 locks, 1 emitted numbers\n[10]\n2 aisle 1  [10, 0, 0, 0, 0, 0, 0, 0]\n", ""))
+    tests.same("a refusal", python(tests, *words, "--json", typed="call none\ncall add 0 1\n"), (1, '{"error":[601]}\n', ""))
+    tests.same("the status", [json.loads(python(tests, *words, "--json", "-c", "status")[1])[name] for name in ("nodes", "procedures")], [3, 2])
+    tests.same("growth and a stop", python(tests, *words, "-c", "grow south", "-c", "call add south 2", "-c", "stop"), (0, "3 south\n[2]\nthe server is stopping\n", ""))
+    tests.same("no server", (it.end().status, python(tests, "treedb.shell", "--port", it.port, "-c", "call add 0 1")[0]), (0, 3))
+
+
+def test_stubs(tests, server):
+    """The module of each example's text does its calls."""
+    for text in sorted(tests.folder.rglob("*.tdb")):
+        made = {"__name__": "made"}
+        exec(compile(python(tests, "treedb.stubs", text)[1], str(text), "exec"), made)
+        tests.same(f"the procedures of {text.name}", set(treedb.reading.declared_in(text.read_text()).procedures) != set(), True)
+        if text.name == "stock.tdb":
+            with treedb.Client(port=server(tree="examples/stock/tree.json", connections=None).port, timeout=PATIENCE) as db:
+                db.register_file(text)
+                stock = made["Stock"](db)
+                tests.same("a call", stock.shift(amount=10, aisle=5, from_=0, onto=1).reply, [10])
+                tests.same("a record", stock.record(16).pieces, db.read(16)[0])
+
+
 def test_unix_sockets(tests, server):
     async def run(path):
         async with await treedb.AsyncClient.connect(path=path, timeout=PATIENCE) as db:
@@ -191,7 +239,7 @@ def test_unix_sockets(tests, server):
     with treedb.Client(path=path, timeout=PATIENCE) as db:
         db.register("add", ADD)
         tests.same("a call", db.call("add", 0, 1).reply, [1])
-        tests.same("the status", treedb.status(path=control), treedb.Status(epoch=0, generation=0, calls=1, connections=1, nodes=3, procedures=1))
+        tests.same("the status", treedb.status(path=control), treedb.Status(epoch=0, generation=0, calls=1, connections=1, nodes=3, procedures=1, places=256))
     tests.same("a call of asyncio's", asyncio.run(run(path)).reply, [2])
     treedb.stop(path=control)
     tests.same("the tree", left(it.end())[0][0], 2)
@@ -202,7 +250,7 @@ def test_status(tests, server):
     with treedb.Client(port=it.port, timeout=PATIENCE) as db:
         db.register("add", ADD)
         db.batch([("add", 0, 1)] * 3)
-        tests.same("the status", treedb.status(port=it.control), treedb.Status(0, 0, 3, 1, 1, 1))
+        tests.same("the status", treedb.status(port=it.control), treedb.Status(0, 0, 3, 1, 1, 1, 0, 256))
     with raises(treedb.Refused, "901"):
         treedb.status(port=server(connections=1).control)
 
@@ -234,8 +282,7 @@ def test_growth(tests, server):
 
 def test_trees_and_tables(tests):
     def run(*words):
-        done = subprocess.run([sys.executable, "-m", "treedb", *words], cwd=tests.folder, env={"PYTHONPATH": str(PYTHON)}, capture_output=True, text=True, check=False)
-        return done.returncode, done.stdout, done.stderr
+        return python(tests, "treedb", *words)
 
     tests.path("goods.csv").write_text(TABLE)
     tests.same("a tree of a table", run("tree", "goods.csv", "tree.json", "names.json"), (0, "6 nodes\n", ""))
@@ -328,6 +375,16 @@ def test_files_of_procedures_in_node(tests, server):
     tests.same("what it says", done.stdout, json.dumps([["shift", "transfer", "visit", "stock"], ["add"], ["walk"], ["10"], [273, 1, 5]], separators=(",", ":")) + "\n")
 
 
+def test_the_client_in_go(tests):
+    """Its own tests, which need no server and no module of another's."""
+    folder, env = TOP / "clients/go", {**os.environ, "GOFLAGS": "-mod=mod", "GOPROXY": "off", "CGO_ENABLED": "0", "GOCACHE": str(tests.path("go"))}
+    for words in (["vet", "./..."], ["test", "-count=1", f"-timeout={PATIENCE:.0f}s", "./..."]):
+        done = subprocess.run([tool("go"), *words], cwd=folder, env=env, capture_output=True, text=True, timeout=PATIENCE, check=False)
+        tests.check(f"go {words[0]}", done.returncode == 0, done.stdout + done.stderr)
+    formatted = subprocess.run([tool("gofmt"), "-l", "."], cwd=folder, capture_output=True, text=True, timeout=PATIENCE, check=False)
+    tests.same("gofmt", formatted.stdout, "")
+
+
 # ---- packages: they install into an empty environment and an empty folder, without an index and without a registry
 
 # An index and a registry that nobody serves.
@@ -373,6 +430,8 @@ def test_the_wheel(tests, server, packages):
     programs = packages.environment("wheel")
     packages.done(programs / "pip", "install", "--no-index", packages.wheel)
     tests.same("the version", packages.done(programs / "treedb-tables", "--version"), f"{treedb.__version__}\n")
+    for name in ("shell", "stubs"):
+        tests.same(f"treedb-{name}", packages.done(programs / f"treedb-{name}", "--version"), f"{treedb.__version__}\n")
     tests.check("it has no program treedb", not (programs / "treedb").exists(), "it is there")
     called = f"import treedb; db = treedb.Client(port={server(connections=None).port}); print(db.read(0), treedb.__file__.startswith({str(packages.folder)!r})); db.close()"
     tests.same("a record", packages.done(programs / "python", "-c", called), "[5, 0, 0, 0, 0, 0, 0, 0] True\n")

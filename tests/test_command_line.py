@@ -100,7 +100,7 @@ def error_line(numbers):
 
 def test_command_lines(tests):
     for command in [[], ["alone"], ["drive"], ["run"], ["serve"], ["audit"], ["asm"], ["dis"], ["verify"], ["check"], ["compile"], ["procs"], ["migrate"],
-                    ["widen"], ["export"], ["stop"], ["status"], ["explain"]]:
+                    ["widen"], ["export"], ["stop"], ["status"], ["snapshot"], ["register"], ["replace"], ["explain"]]:
         run = tests.run(*command, "--help")
         name = " ".join(command) or "treedb"
         holds = run.status == 0 and "Usage" in run.out and "Exit status" in run.out and run.err == ""

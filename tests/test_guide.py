@@ -19,6 +19,7 @@ import time
 from typing import NamedTuple
 
 from running import PATIENCE, TOP, Found, Hangs, before_program, files_of_repository, free_port, until
+from unproved import environment
 
 PORT, CONTROL = "7878", "7879"
 END = "the command has ended"
@@ -109,14 +110,20 @@ def tried(tests, page):
     """Each command of the page prints what the page says."""
     for part in ("clients", "viewer"):
         shutil.copytree(TOP / part, tests.path(part), ignore=shutil.ignore_patterns("__pycache__"))
-    # The word `--unproved` is left out: the program that is tested was built before.
-    tests.path("treedb").write_text(f'#!/usr/bin/env bash\n[[ "${{1:-}}" == --unproved ]] && shift\nexec -a treedb {tests.program} "$@"\n')
+    # Behind `--unproved` a kit runs what was built before.
+    kit = " ".join(f"{name}={value}" for name, value in environment(tests.folder, tests.program).items())
+    tests.path("treedb").write_text(f'#!/usr/bin/env bash\n[[ "${{1:-}}" == --unproved ]] && {kit} exec {TOP}/treedb "$@"\nexec -a treedb {tests.program} "$@"\n')
     tests.path("treedb").chmod(0o755)
-    shell, port, control = Shell(tests.folder), str(free_port()), str(free_port())
+    run_in(tests, page, tests.folder)
+
+
+def run_in(tests, page, folder):
+    """Runs the commands of a page in that folder, where `./treedb` is the program."""
+    shell, port, control = Shell(folder), str(free_port()), str(free_port())
     try:
         for step in steps((TOP / page).read_text().replace(PORT, port).replace(CONTROL, control)):
             if isinstance(step, File):
-                tests.path(step.name).write_text(step.text)
+                (folder / step.name).write_text(step.text)
                 continue
             command, wanted = step
             printed = shell.run(command)
@@ -139,6 +146,10 @@ def test_guide(tests):
 
 def test_own_tree(tests):
     tried(tests, "docs/use/own-tree.md")
+
+
+def test_testing(tests):
+    tried(tests, "docs/use/testing.md")
 
 
 def test_cookbook(tests):
@@ -194,6 +205,16 @@ def leads(page, target):
     return file.exists() and (not anchor or anchor in anchors(file))
 
 
+def text_of(page):
+    """The text of a page without its blocks."""
+    return re.sub(r"^(```.*?^```|    .*?)$", "", page.read_text(), flags=re.MULTILINE | re.DOTALL)
+
+
+def lost_links(page):
+    """The links of a page that lead nowhere."""
+    return [target for target in re.findall(r"\]\(([^)\s]+)\)", re.sub(r"`[^`\n]*`", "", text_of(page))) if not leads(page, target)]
+
+
 def is_there(page, name):
     """Whether a page that is named in backticks is there: from the top, or beside the page that names it."""
     return (TOP / name).is_file() or (page.parent / name).is_file()
@@ -206,7 +227,5 @@ def test_the_promises_by_crate_are_those_of_the_sources():
 def test_links(tests):
     """Each link of each page leads somewhere."""
     for page in files_of_repository("*.md"):
-        text = re.sub(r"^(```.*?^```|    .*?)$", "", page.read_text(), flags=re.MULTILINE | re.DOTALL)
-        targets = [target for target in re.findall(r"\]\(([^)\s]+)\)", re.sub(r"`[^`\n]*`", "", text)) if not leads(page, target)]
-        names = [name for name in re.findall(r"`([\w./-]+\.md)`", text) if not is_there(page, name)]
-        tests.same(f"{page.relative_to(TOP)}: what leads nowhere", [*targets, *names], [])
+        names = [name for name in re.findall(r"`([\w./-]+\.md)`", text_of(page)) if not is_there(page, name)]
+        tests.same(f"{page.relative_to(TOP)}: what leads nowhere", [*lost_links(page), *names], [])

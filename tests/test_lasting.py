@@ -240,8 +240,9 @@ def test_one_folder(tests):
     tests.answers("its audit", ["audit", "both"], 0, lines({"orders": [[0]]}), "")
 
 
-def told(epoch, generation, calls, connections, nodes, procedures):
-    return lines({"epoch": epoch, "generation": generation, "calls": calls, "connections": connections, "nodes": nodes, "procedures": procedures})
+def told(epoch, generation, calls, connections, nodes, procedures, refusals):
+    numbers = {"epoch": epoch, "generation": generation, "calls": calls, "connections": connections, "nodes": nodes, "procedures": procedures}
+    return lines({**numbers, "refusals": refusals, "places": 256, "browsers": 0})
 
 
 def test_status(tests):
@@ -261,12 +262,12 @@ def test_status(tests):
         peer.rest()
         with_another.ask(SEAL)
         tests.check("status: what was registered", [each.startswith('{"bounds"') for each in (one, two, refused)] == [True, True, False], (one, two, refused))
-        wanted = [told(0, 0, 0, 0, 1, 0), told(0, 0, 3, 1, 1, 2), told(2, 1, 4, 2, 1, 2)]
+        wanted = [told(0, 0, 0, 0, 1, 0, 0), told(0, 0, 3, 1, 1, 2, 4), told(2, 1, 4, 2, 1, 2, 4)]
         tests.check("status", [(run.status, run.out, run.err) for run in runs] == [(0, out, "") for out in wanted], runs)
         with Peer(server.control).socket as asking:
             asking.sendall(b"status\n")
             line = asking.recv(4096)
-        tests.check("status: the line", line.startswith(b'{"epoch":3,"generation":1,"calls":4,"connections":') and line.endswith(b',"nodes":1,"procedures":2}\n'), line)
+        tests.check("status: the line", line.startswith(b'{"epoch":3,"generation":1,"calls":4,"connections":') and line.endswith(b',"nodes":1,"procedures":2,"refusals":4,"places":256,"browsers":0}\n'), line)
         for wrong in ("statu", "statux", "status ", "Status", "state"):
             other = Peer(server.control)
             other.send(wrong)

@@ -2,27 +2,34 @@
 
 import json
 
+import hostile
 from running import TOP
 
 FOLDER = TOP / "tests/procedures"
 TAKEN = """
-    atomic_bulk_write atomic_bulk_write_by_try bom_one_level lease ledger_two_subtrees part_and_a_later_constant part_that_gives_nothing_back queue_ring quota_any_depth
+    atomic_bulk_write atomic_bulk_write_by_try bom_one_level constant_as_field_or_bound lease least_number_behind_an_operator ledger_two_subtrees part_and_a_later_constant part_that_gives_nothing_back queue_ring quota_any_depth
     reservation_expiry search_by_while search_sorted sum_behind_a_condition three_way_split top3_one_pass top_k_in_passes versioned
 """.split()
 # The number of the fault, its line and its column.
 REFUSED = {
     "bom_recursive": [275, 4, 39],
     "children_listed": [297, 4, 44],
-    "constant_as_field_or_bound": [273, 2, 11],
     "follow_a_reference": [282, 10, 14],
-    "least_number_behind_an_operator": [271, 1, 21],
     "one_field_twice": [298, 4, 19],
-    "part_named_while": [273, 2, 20],
+    "part_named_while": [273, 1, 6],
     "part_with_a_later_field": [275, 1, 20],
     "pick_order_four_lines": [279, 2, 53],
     "place_of_299": [299, 5, 5],
     "search_natural": [297, 6, 30],
     "three_way_split_nine_arguments": [279, 2, 51],
+}
+# Large texts, and their faults: blocks in one another, also in 1, 2 and 4 parts, and many names with many uses of parts.
+LARGE = {
+    "deep": (hostile.deep, [0], [294, 2, 6]),
+    "deep, in a part": (hostile.deep, [1], [274, 2, 2124]),
+    "deep, in two parts": (hostile.deep, [2], [274, 3, 2124]),
+    "deep, in four parts": (hostile.deep, [4], [274, 5, 2124]),
+    "many names": (hostile.many_names, [], [294, 3, 1226]),
 }
 # Where a loop may not go through all children, and `check` says so.
 WARNED = {"sum_behind_a_condition": "line 7, column 5", "top_k_in_passes": "line 9, column 9"}
@@ -30,6 +37,7 @@ WARNED = {"sum_behind_a_condition": "line 7, column 5", "top_k_in_passes": "line
 CALLS = [
     ("atomic_bulk_write", [0, 4], [1], {1: [4], 2: [4], 3: [4]}),
     ("atomic_bulk_write_by_try", [0, 4], [1], {1: [4], 2: [4], 3: [4]}),
+    ("least_number_behind_an_operator", [1], [-2147483647], {}),
     ("part_that_gives_nothing_back", [50], [50], {}),
     ("search_by_while", [0, 7], [2], {}),
     ("sum_behind_a_condition", [0, 0], [21], {}),
@@ -53,6 +61,13 @@ def test_each_text_is_judged(tests):
         else:
             tests.check(f"{name} is taken", run.status == 0 and isinstance(answer, list), run)
             tests.check(f"{name}: the warnings of loops", (": the loop may not go through all" in run.err) == (name in WARNED) and WARNED.get(name, "") in run.err, run)
+
+
+def test_large_texts(tests):
+    for name, (text, arguments, fault) in LARGE.items():
+        tests.path("large.tdb").write_text(text(*arguments))
+        run = tests.run("check", "large.tdb")
+        tests.check(f"{name} is refused", (run.status, run.out) == (1, json.dumps({"error": fault}, separators=(",", ":")) + "\n"), run)
 
 
 def test_what_they_do(tests):

@@ -2,13 +2,15 @@
 
 import contextlib
 import json
+import os
 import signal
 import socket
+import subprocess
 import time
 
 from disk import Disk, library
-from running import free_port, until
-from serving import ADD, CALL, LONG, Peer, serving
+from running import PATIENCE, TOP, free_port, until
+from serving import ADD, CALL, LONG, Peer, Process, serving
 
 STOPPING = '{"stopping":true}\n'
 
@@ -196,3 +198,22 @@ def test_answers_not_taken(tests):
         busy.close()
         run = server.end()
         tests.check("peers that take nothing", (run.status, run.out) == (0, left([0], 8)), run)
+
+
+def test_launcher(tests):
+    """`tools/treedb-serve` has a server end in order where a signal comes, and hands its status on."""
+    words = ["--tree", "examples/one-node.json", "--save", "launched.json"]
+    for name in ("SIGTERM", "SIGINT"):
+        port, control = free_port(), free_port()
+        launched = Process(TOP / "tools/treedb-serve", [*words, "--port", port, "--control", control], folder=tests.folder, env={"TREEDB": str(tests.program)})
+        peer = Peer(port)
+        answers = [peer.ask(line) for line in (ADD, CALL)]
+        launched.process.send_signal(getattr(signal, name))
+        run = launched.end()
+        wanted = '{"parents":[0],"records":[[8,0,0,0,0,0,0,0]]}\n'
+        tests.check(f"a launched server at a {name}", (run.status, run.out, tests.bytes("launched.json").decode()) == (0, '{"generations":1}\n' + wanted, wanted), (answers, run))
+    launched = Process(TOP / "tools/treedb-serve", [*words, "--port", port, "--control", control], folder=tests.folder, env={"TREEDB": str(tests.program)})
+    tests.check("it is stopped at its control too", tests.run("stop", "--port", str(control)).status == 0 and launched.end().status == 0, "")
+    for words, status in (["--port", str(port)], 2), (["--tree", "none.json", "--port", str(port), "--control", str(control)], 3):
+        run = subprocess.run([TOP / "tools/treedb-serve", *words], cwd=tests.folder, env={**os.environ, "TREEDB": str(tests.program)}, capture_output=True, text=True, timeout=PATIENCE, check=False)
+        tests.check(f"a launched server that doesn't start: {status}", run.returncode == status, run)

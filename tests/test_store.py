@@ -457,6 +457,49 @@ def test_reading(tests):
             tests.check(f"an audit beside {what}", (run.status, run.out) == answer, run)
 
 
+def changed(tests, name, *statements):
+    """Changes a store that no server has open, by Python's SQLite."""
+    with contextlib.closing(sqlite3.connect(tests.path(name))) as base:
+        for statement in statements:
+            base.execute(statement)
+        base.commit()
+
+
+def test_forms(tests):
+    """A new store says its form. One of each form so far is taken up; one of a newer form is refused, and stays as it is."""
+    with made(tests, "form.db") as server:
+        kill(server)
+    tests.check("its form, right after it is made", tests.bytes("form.db")[60:64] == bytes([0, 0, 0, 1]), tests.bytes("form.db")[:100])
+    for kept in sorted((TOP / "tests/forms").glob("*.db")):
+        name = f"of-{kept.name}"
+        shutil.copyfile(kept, tests.path(name))
+        said = stored(tests, name, "pragma user_version")
+        tests.check(f"form {kept.stem}: what it says", said == [(int(kept.stem),)], said)
+        with again(tests, name) as server:
+            peer = Peer(server.port)
+            again_told = peer.ask(json.dumps({"op": "call", "proc": "add", "args": [0, 2], "key": "first"}))
+            told = peer.ask(call(0, 3))
+            peer.close()
+            server.stop()
+            run = server.end()
+        tests.check(f"form {kept.stem}: a call that it has the key of", again_told == lines({"call": 0, "reply": [7], "stored": 0}), again_told)
+        tests.check(f"form {kept.stem}: a call", told == reply(0, 10) and run.status == 0, (told, run))
+        audit = tests.run("audit", name)
+        tests.check(f"form {kept.stem}: the audit", (audit.status, audit.out) == (0, lines({"orders": [[0], [0], []]})), audit)
+        tests.check(f"form {kept.stem}: it says what it said", stored(tests, name, "pragma user_version") == said, said)
+    tests.path("forms").mkdir()
+    for what, statements, numbers in (("a newer form", ["pragma user_version = 2"], [1018, 2]), ("the newest form", [f"pragma user_version = {2 ** 31 - 1}"], [1018, 2 ** 31 - 1]),
+                                      ("a newer form with another table", ["create table more(number integer primary key)", "pragma user_version = 7"], [1018, 7]),
+                                      ("this form with another table", ["create table more(number integer primary key)"], [1003, 9]),
+                                      ("other tables", ["drop table node", "pragma user_version = 7"], [1003, 9])):
+        shutil.copyfile(tests.path("form.db"), tests.path("newer.db"))
+        changed(tests, "newer.db", *statements)
+        before = tests.bytes("newer.db")
+        for words in (["serve", "--port", str(free_port()), "--store", "newer.db"], ["audit", "newer.db"], ["export", "newer.db", "forms"]):
+            tests.answers(f"{words[0]} of {what}", words, 1, lines({"error": numbers}))
+        tests.check(f"{what}: the file", tests.bytes("newer.db") == before, "it is another")
+
+
 def test_exports_refused(tests):
     """Files that are no stores, folders that won't do, and stores that somebody changed."""
     tests.path("there").mkdir()
@@ -558,6 +601,57 @@ def test_many_epochs(tests):
     tests.check("many epochs: each has its calls", len(epochs) > 5 and all(count == numbers <= 4096 for _, count, numbers in epochs), epochs)
     tests.check("many epochs: the seals", stored(tests, name, "select epoch, calls from seal") == [(epoch, sum(count for other, count, _ in epochs if other <= epoch))
                 for epoch in range(epochs[-1][0] + 1)], (stored(tests, name, "select epoch, calls from seal"), epochs))
+
+
+# A call that a server takes first, what its rows have of it, and other bytes in their place. Its number is written as two equal bytes.
+CHANGED_CALL, ITS_NUMBER = {"op": "call", "proc": "add", "args": [0, 7654321], "key": "the key of a call"}, 0x0707
+CHANGES = {
+    "an argument": (b"[0,7654321]", b"[0,7654322]"),
+    "a reply": (b"[7656125]", b"[7656126]"),
+    "a turn": (b"\x07" * 8, b"\x07" * 6 + b"\x06" * 2),
+    "a key": (b"the key of a call", b"the key of a cull"),
+}
+# A call with much to store, and how many of them store more pages than a server keeps in memory.
+WIDE = json.dumps({"op": "register", "name": "wide", "asm": "arity 8\n" + "".join(f"emit v{number % 8}\n" for number in range(32)) + "ret\n"})
+WIDE_CALLS = json.dumps({"op": "batch", "calls": [["wide", [-1 << 63] * 8]] * 256, "workers": 1})
+MANY_PAGES = 42
+
+
+def changed_in_files(tests, name, old, new):
+    """Changes the files of a store beside the server that has them open. Answers whether the bytes were there."""
+    found = False
+    for path in (tests.path(name), tests.path(name + "-wal")):
+        data = path.read_bytes() if path.exists() else b""
+        at = data.find(old)
+        while at >= 0:
+            with open(path, "r+b") as file:
+                file.seek(at)
+                file.write(new)
+            found, at = True, data.find(old, at + len(old))
+    return found
+
+
+def test_changed_beside_a_server(tests):
+    """A server reads back at a hand-over what it has stored. Where the files were changed meanwhile, a page isn't what was written: it says which epoch, stores nothing more, and ends with 1013."""
+    for what, (old, new) in CHANGES.items():
+        tests.path(STORE).unlink(missing_ok=True)
+        with made(tests, STORE) as server:
+            peer = Peer(server.port)
+            before = [peer.ask(ADD), peer.ask(WIDE), *(peer.ask(batch(*[1] * count)) for count in [256] * 7 + [7])]
+            told = peer.ask(json.dumps(CHANGED_CALL))
+            tests.check(f"{what} is changed: the call", told == reply(ITS_NUMBER, 5 + ITS_NUMBER + CHANGED_CALL["args"][1]), (told, before[-1]))
+            many = [peer.ask(WIDE_CALLS) for _ in range(MANY_PAGES)]
+            tests.check(f"{what} is changed", changed_in_files(tests, STORE, old, new), many[-1][:200])
+            # Nodes are appended by the next engine. The one before is compared while lines are answered.
+            grown = peer.ask(json.dumps({"op": "grow", "parents": [0]}))
+            server.says(lambda said: "of the store" in said)
+            refused = peer.ask(call(0, 1))
+            server.stop()
+            run = server.end()
+        tests.check(f"{what} is changed: nodes are appended", grown == lines({"grown": 1}), grown)
+        tests.check(f"{what} is changed: nothing more is stored", "reply" not in refused, refused)
+        tests.check(f"{what} is changed: it is said of which epoch", "treedb: epoch 0 of the store isn't what was run, or can't be compared: " in run.err, run)
+        tests.check(f"{what} is changed: the end", (run.status, run.out) == (1, lines({"error": [1013]})), run)
 
 
 def ask_until_killed(port, own):

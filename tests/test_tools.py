@@ -1,6 +1,9 @@
 """Runs the tools that look at what isn't Rattle: ruff, mypy, shellcheck, the compiler of TypeScript and Cargo. Each test is skipped where its tool isn't there; `tests/run --require` names those that have to be."""
 
+import pathlib
 import subprocess
+import sys
+import tempfile
 
 from running import REQUIRED, TOP, Counts, files_of_repository, fixture, skip, tool
 
@@ -27,7 +30,16 @@ def test_ruff(tests):
 
 
 def test_mypy(tests):
-    says_nothing(tests, "mypy", tool("mypy"), "treedb", folder=TOP / "clients/python")
+    """The client in Python is typed throughout, and so are the modules that it writes of texts."""
+    words = [tool("mypy"), "--config-file", TOP / "pyproject.toml", "--strict"]
+    client = TOP / "clients/python"
+    with tempfile.TemporaryDirectory() as folder:
+        says_nothing(tests, "mypy", *words, f"--cache-dir={folder}", "treedb", folder=client)
+        for option in ([], ["--async"]):
+            made = subprocess.run([sys.executable, "-m", "treedb.stubs", *option, TOP / "examples/stock/stock.tdb"], cwd=client, stdin=subprocess.DEVNULL, capture_output=True, text=True, check=True)
+            stub = pathlib.Path(folder, f"stock{len(option)}.py")
+            stub.write_text(made.stdout)
+            says_nothing(tests, f"mypy of stubs {option}", *words, f"--cache-dir={folder}", stub, folder=client)
 
 
 def test_shellcheck(tests):

@@ -90,7 +90,7 @@ class Browser:
                 self.value(f"byId('{name}').value = {at}; byId('{name}').oninput()")
         # A picture that was asked for is drawn before the second of two frames.
         self.value("new Promise((done) => requestAnimationFrame(() => requestAnimationFrame(done)))")
-        return json.loads(self.value("byId('drawn').textContent"))
+        return json.loads(self.value("JSON.stringify(reported())"))
 
     def picture(self, path):
         path.write_bytes(base64.b64decode(self.ask("Page.captureScreenshot")["data"]))
@@ -206,7 +206,7 @@ class Site:
     def again(self):
         """What the page that is open reports now."""
         self.browser.value("new Promise((done) => requestAnimationFrame(() => requestAnimationFrame(done)))")
-        return json.loads(self.browser.value("byId('drawn').textContent"))
+        return json.loads(self.browser.value("JSON.stringify(reported())"))
 
     def picture(self, name):
         if self.pictures:
@@ -252,6 +252,39 @@ def test_epochs(tests, site):
 def test_names(tests, site):
     (site.folder / "names.json").write_text(json.dumps(["all", "north", "aisle"]))
     tests.same("lanes", site.drawn("trail=/sweeps.json&names=/names.json")["lane"], ["0 all", "1 north", "2 aisle"])
+
+
+def test_labels(tests, site):
+    """No label lies over another one, or reaches out of its column; where one doesn't fit, there is less of it, or none."""
+    drawn = site.drawn("trail=/stock.json")
+    tests.check("times", len(drawn["times"]) > 5 and all(one[1] <= other[0] for one, other in zip(drawn["times"], drawn["times"][1:])), drawn["times"])
+    edge = site.browser.value("LABELS + spaceFor()")
+    tests.check("the last time", drawn["times"][-1][1] < edge, (drawn["times"], edge))
+    tests.check("bars have labels", 0 < drawn["labels"] < drawn["bars"], drawn)
+    fits = "paint.font = '12px system-ui, sans-serif'; ['north', 'a name that is as long as names may be, and longer', ''].map((it) => [fitting(it, 60), paint.measureText(fitting(it, 60)).width])"
+    short, long, empty = json.loads(site.browser.value(f"JSON.stringify((() => {{ {fits.replace('; [', '; return [')}; }})())"))
+    tests.check("a name that is too long", short[0] == "north" and empty[0] == "" and long[0].startswith("a name") and long[0].endswith("…") and long[1] <= 60, (short, long, empty))
+
+
+def test_a_circle_of_parents(tests, site):
+    """It is no tree, and the page says so at once."""
+    value = json.loads((site.folder / "sweeps.json").read_text())
+    value["tree"]["parents"][1:3] = [2, 1]
+    (site.folder / "circle.json").write_text(json.dumps(value))
+    site.browser.value(f"openFiles([new File([{json.dumps(json.dumps(value))}], 'circle.json')])")
+    wait_until(site, "byId('error').textContent !== ''")
+    tests.check("what it says", "node 1 has no parent of a lower number" in site.browser.value("byId('error').textContent"), site.browser.value("byId('error').textContent"))
+
+
+def test_a_folder(tests, site):
+    """Of a folder the logs are opened, and the names of nodes."""
+    site.drawn("trail=/sweeps.json")
+    listed = ",".join(f"new File([{json.dumps(json.dumps(['all']) if name is None else (site.folder / f'{name}.json').read_text())}], '{file}')"
+                      for file, name in {"1.json": "turns", "0.json": "epochs", "names.json": None, "left.json": "turns", "2.json.part": "turns"}.items())
+    site.browser.value(f"openFiles(logsOf([{listed}]))")
+    drawn = site.again()
+    file, _, said = files(site)
+    tests.same("the files", (file, drawn["lane"][0], said.startswith("0.json")), ([False, "1", "0"], "0 all", True))
 
 
 def test_colours(tests, site):

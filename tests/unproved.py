@@ -1,0 +1,25 @@
+"""A kit whose `rt try` runs a program that was built before, so that tests may use `treedb --unproved` as a newcomer does: what is built is kept in a folder of theirs."""
+
+import os
+import re
+
+# It runs the program, as `rt try` does, and writes down that it was asked to.
+RT = """#!/usr/bin/env bash
+while [[ "$1" != "--" ]]; do shift; done
+shift
+echo "$1" >> {told}
+{program} "$@"
+"""
+
+
+def environment(folder, program):
+    """What tests run `treedb --unproved` with: this kit, which stands in a folder of its own. `kit/told` has a line for each build."""
+    kit = folder / "kit"
+    kit.mkdir(exist_ok=True)
+    # A script of tools/unproved names itself `treedb`: a kit runs the program by its path.
+    script = program.read_bytes()[:4096]
+    words = re.search(rb'^exec -a treedb (.*) "\$@"$', script, re.MULTILINE) if script.startswith(b"#!") else None
+    run = f"ASAN_OPTIONS=verify_asan_link_order=0:detect_leaks=0 exec {words[1].decode()}" if words else f"exec {program}"
+    (kit / "rt").write_text(RT.format(program=run, told=kit / "told"))
+    (kit / "rt").chmod(0o755)
+    return {"PATH": f"{kit}:{os.environ['PATH']}", "TREEDB_UNPROVED": str(folder / "unproved")}
