@@ -10,6 +10,7 @@ import os
 import shutil
 from typing import NamedTuple
 
+import refusing
 from disk import FAILURES, Disk, library
 from running import Threads, chance, parametrize
 from serving import ADD, NotStarted, Peer, serving
@@ -207,6 +208,99 @@ def test_many_connections(tests):
             every.keyed = {key: answer for answers in own for key, answer in answers.keyed.items()}
             every.told = [each for answers in own for each in answers.told]
             has_all(tests, name, STORE, every)
+
+
+# What a file that isn't as it was written is refused with, by the server that wrote it or by the next one.
+OTHER_BYTES = {1003, 1004, 1005, 1006, 1011, 1013, 1014}
+
+
+def number_of(run):
+    """The number with which a run ended."""
+    return json.loads(run.out.splitlines()[-1])["error"][0] if run.status else 0
+
+
+def said_of(tests, answers):
+    """With which numbers an audit, a start and its calls say that a copy of the store's file isn't as it was written; none where each of them takes it."""
+    copied(tests, STORE, "read.db")
+    said, found = {number_of(tests.run("audit", "read.db"))}, []
+    try:
+        with serving(tests, "--store", "read.db", connections=None, tree=None) as server:
+            with contextlib.suppress(OSError):
+                peer = Peer(server.port)
+                found = [peer.ask(line) for line in (*map(keyed, answers.keyed), call(0, 0))]
+                peer.close()
+            server.stop()
+            said.add(number_of(server.end()))
+    except NotStarted as refused:
+        said.add(number_of(refused.run))
+    told = [json.loads(line) for line in found if line.endswith("\n")]
+    return said.union(answer["error"][0] for answer in told if "error" in answer) - {0}
+
+
+def test_lost_writes(tests):
+    """A disk that says of one write that it is done, and hasn't done it. The server says at its end that its store is another than what was run, or a reader, the next start or one of its calls says so, or all is there."""
+    built, found = library(tests.folder), []
+
+    def once(name, number):
+        disk = Disk(built, tests.folder)
+        for suffix in ("", "-wal"):
+            tests.path(STORE + suffix).unlink(missing_ok=True)
+        answers = Answers()
+        with serving(tests, "--store", STORE, connections=None, env=disk.failing(number, "lose", later=True)) as server:
+            ask_until_the_end(server, [ADD], answers)
+            disk.now()
+            ask_until_the_end(server, [keyed("one"), call(0, 2), GROW, keyed("two")], answers)
+            server.stop()
+            found.append(number_of(server.end()))
+        said = {found[-1]} - {0} | said_of(tests, answers)
+        if said:
+            # What was lost may be missed by others too, as a procedure by a call.
+            tests.check(f"{name}: what is said", said & OTHER_BYTES, said)
+        else:
+            has_all(tests, name, STORE, answers)
+        return disk.calls()
+
+    count = once("no write is lost", MOST)
+    for number in range(1, count + 1):
+        once(f"write {number} of {count} is lost", number)
+    tests.check("a lost write is told of by the server that wrote", any(found), found)
+
+
+# Where memory is refused to a server with a store: for a line, an epoch, a generation or the store.
+OUT_OF_MEMORY = {190, 290, 390, 490, 690, 790, 890, 990, 1090}
+
+
+def without_memory(tests, library, number, answers):
+    """Whether a server on a store came to its allocation of that number, which was refused: it ends with status 4 or goes on, and the next start has every answer."""
+    own, name = Answers(), f"allocation {number} of a server with a store refused"
+    own.keyed, own.told = dict(answers.keyed), list(answers.told)
+
+    def run(**named):
+        try:
+            with serving(tests, "--store", STORE, "--generation", "1", connections=None, tree=None, **named) as server:
+                ask_until_the_end(server, [keyed("one"), call(0, 2), GROW, SEAL, keyed("two"), batch(1, 2)], own)
+                server.stop()
+                return server.end()
+        except NotStarted as refused:
+            return refused.run
+
+    copied(tests, "before.db", STORE)
+    ended, was_refused = refusing.refused(library, number, False, run)
+    # Where memory is refused as the program begins, there is none for a line either.
+    tests.check(f"{name}: the end", ended.status == 0 or (ended.status == 4 and (not ended.out or number_of(ended) in OUT_OF_MEMORY)), ended)
+    has_all(tests, name, STORE, own)
+    return was_refused
+
+
+def test_without_memory(tests):
+    """Each seventeenth allocation is refused, from one of the first seventeen on."""
+    library, answers = refusing.library(tests.folder), Answers()
+    with serving(tests, "--store", "before.db", connections=None) as server:
+        ask_until_the_end(server, [ADD, keyed("before 0")], answers)
+        server.kill()
+    number = chance("a store without memory").randrange(1, 18)
+    while without_memory(tests, library, number, answers):
+        number += 17
 
 
 def test_first_start(tests):
