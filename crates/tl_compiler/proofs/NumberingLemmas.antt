@@ -1,5 +1,5 @@
 -- What is read is numbered: each value has the next register.
-use Rattle.std.proofs.Common.{◌≡◌, ℕ, ◌+◌, ◌/◌, List, [], ◌∷◌, length, refl, ap, ◌∙◌, subst, arith}
+use Rattle.std.proofs.Common.{◌≡◌, ℕ, ◌+◌, ◌/◌, List, [], ◌∷◌, length, Option, refl, ap, ◌∙◌, subst, arith}
 use Rattle.std.specs.List.{All}
 use Rattle.std.proofs.lemmas.List.Elements.{All-nil, All-cons, All-head, All-tail, All-push, All-take, All-drop}
 use Rattle.tl_syntax.specs.declared.parsed.Name.{Name}
@@ -16,9 +16,12 @@ use Rattle.tl_syntax.specs.declared.parsed.StatementForm.{StatementForm}
 use Rattle.tl_lowering.specs.declared.program.Procedure.{Procedure}
 use Rattle.tl_lowering.specs.declared.program.Statement.{Statement}
 use Rattle.tl_lowering.specs.declared.program.Statement.TheVariants as S
+use Rattle.tl_syntax.specs.declared.parsed.Form.{Form}
+use Rattle.tl_lowering.specs.declared.program.Expression.{Expression}
+use Rattle.tl_lowering.specs.Failing.{Readers, IsFailure, bare, coded, IsMarked, not_read, sure, marked, IsRenewed, not_renewed, renewed}
 use Rattle.tl_lowering.specs.Names.{Names, with_values, with_place}
-use Rattle.tl_lowering.specs.Naming.{calculated, then, IsHalved, none, one, more, AreEmits, no_emits, next_emit, AreWritten, all_computed, next_computed, IsWritten, one_write, several_writes, IsAction, assigns, writes, emits, requires, descends, takes, frees, breaks, returns, fails}
-use Rattle.tl_lowering.specs.Reading.{IsAtOffset, at, IsTried, tried, IsVisiting, visiting, IsBlock, block, AreStatements, no_more, next, let_rest, let_else, lock_rest, lock_else, IsStatement, IsActed, plain, used, IsGiven, all_given, node_given, variable_given, value_given, act, act_else, try, if, if_lock, repeat, repeat_up_to, for_each, block_alone, IsBody, IsProcedure, AreDeclared, none_declared, next_field, next_constant, next_procedure, next_part, IsProgram}
+use Rattle.tl_lowering.specs.Naming.{calculated, then, IsHalved, none, one, more, AreEmits, no_emits, next_emit, AreWritten, all_computed, next_computed, IsWritten, one_write, several_writes, IsAction, assigns, writes, emits, descends, takes, frees, breaks, returns}
+use Rattle.tl_lowering.specs.Reading.{IsAtOffset, at, IsTried, tried, IsVisiting, visiting, IsBlock, block, AreStatements, no_more, next, let_rest, let_told, let_else, lock_rest, lock_else, IsStatement, IsActed, plain, requires, fails, fails_with, used, IsRequired, required, names_in_body, names_in_else, IsCaught, unnamed, named, IsGiven, all_given, node_given, variable_given, value_given, act, act_else, try, try_told, if, if_lock, repeat, repeat_up_to, for_each, block_alone, IsBody, IsProcedure, AreDeclared, none_declared, next_field, next_constant, next_procedure, next_part, IsProgram}
 use Rattle.tl_lowering.specs.Sound.{IsInOrder}
 use Rattle.tl_compiler.specs.Rooms.{IsNumbered, IsReady}
 
@@ -53,60 +56,87 @@ action : {names : Names} {a : Action} {s : Statement} → IsAction names a s →
 action (assigns e n c has) = tt
 action (writes w) = written w
 action {names} (emits e) = halved names.values e.joined (emitted names.values e.each)
-action (requires c) = (tt, tt)
 action (descends room e n has) = tt
 action (takes e f) = tt
 action (frees e) = tt
 action (breaks lt) = tt
 action returns = tt
-action fails = tt
 
 beside : (names : Names) (text : TextPlace) (a : Statement) → IsNumbered a (with_place names text).values → IsNumbered a names.values
 beside names (T.Node name offset number) a n = n
 beside names (T.Child c) a n = n
 beside names (T.Pair c d) a n = n
 
-mutual
-  in_block : {before : List Declaration} {names : Names} {xs : List TextStatement} {s : Statement} → IsBlock before names xs s → IsNumbered s names.values
-  in_block {before} {names} (block are j) = halved names.values j (in_statements are)
+-- ---- failures and their marks
 
-  in_statements : {before : List Declaration} {names : Names} {xs : List TextStatement} {parts : List Statement} → AreStatements before names xs parts → All (λ s. IsNumbered s names.values) parts
-  in_statements {before} {names} no_more = All-nil (λ s. IsNumbered s names.values)
-  in_statements {before} {names} (next {b = b} {parts = parts} s a rest reached) =
-      All-cons (λ s. IsNumbered s names.values) b parts (placed names.values (in_statement s) a) (in_statements rest)
-  in_statements {before} {names} (let_rest {a = a} f new room n has body o) =
+failing : (d : ℕ) {c : Option ℕ} {e : Expression} {s : Statement} → IsFailure c e s → IsNumbered s d
+failing d bare = tt
+failing d (coded then) = (tt, tt)
+
+marking : (d : ℕ) {c : Option ℕ} {a b : Statement} → IsMarked c a b → IsNumbered a d → IsNumbered b d
+marking d not_read x = x
+marking d (sure e) x = x
+marking d (marked e then) x = (tt, x)
+
+renewing : (d : ℕ) {c : Option ℕ} {a b : Statement} → IsRenewed c a b → IsNumbered a d → IsNumbered b d
+renewing d not_renewed x = x
+renewing d (renewed then) x = (x, tt)
+
+requiring : (d : ℕ) {readers : Readers} {names : Names} {form : Form} {why : Option TextExpression} {s : Statement} → IsRequired readers names form why s → IsNumbered s d
+requiring d (required c r f) = (tt, failing d f)
+
+mutual
+  in_block : {before : List Declaration} {readers : Readers} {names : Names} {xs : List TextStatement} {s : Statement} → IsBlock before readers names xs s → IsNumbered s names.values
+  in_block {before} {readers} {names} (block are j) = halved names.values j (in_statements are)
+
+  in_statements : {before : List Declaration} {readers : Readers} {names : Names} {xs : List TextStatement} {parts : List Statement} → AreStatements before readers names xs parts → All (λ s. IsNumbered s names.values) parts
+  in_statements {before} {readers} {names} no_more = All-nil (λ s. IsNumbered s names.values)
+  in_statements {before} {readers} {names} (next {parts = parts} s m a rest reached) =
+      All-cons (λ s. IsNumbered s names.values) _ parts (placed names.values (marking names.values m (in_statement s)) a) (in_statements rest)
+  in_statements {before} {readers} {names} (let_rest {a = a} f new room n has told body o) =
       All-cons (λ s. IsNumbered s names.values) a [] (placed names.values (refl, in_block body) o) (All-nil (λ s. IsNumbered s names.values))
-  in_statements {before} {names} (let_else {a = a} f new room n has other leaves body o) =
+  in_statements {before} {readers} {names} (let_told {a = a} f new room n has told other body o) =
+      All-cons (λ s. IsNumbered s names.values) a [] (placed names.values (refl, in_block body, failing names.values other) o) (All-nil (λ s. IsNumbered s names.values))
+  in_statements {before} {readers} {names} (let_else {a = a} f new room n has other leaves body o) =
       All-cons (λ s. IsNumbered s names.values) a [] (placed names.values (refl, in_block body, in_block other) o) (All-nil (λ s. IsNumbered s names.values))
-  in_statements {before} {names} (lock_rest {text = text} {body = body} {a = a} f place b o) =
-      All-cons (λ s. IsNumbered s names.values) a [] (placed names.values (beside names text body (in_block b), tt) o) (All-nil (λ s. IsNumbered s names.values))
-  in_statements {before} {names} (lock_else {text = text} {body = body} {a = a} f place other leaves b o) =
+  in_statements {before} {readers} {names} (lock_rest {text = text} {body = body} {a = a} f place other b o) =
+      All-cons (λ s. IsNumbered s names.values) a [] (placed names.values (beside names text body (in_block b), failing names.values other) o) (All-nil (λ s. IsNumbered s names.values))
+  in_statements {before} {readers} {names} (lock_else {text = text} {body = body} {a = a} f place other leaves b o) =
       All-cons (λ s. IsNumbered s names.values) a [] (placed names.values (beside names text body (in_block b), in_block other) o) (All-nil (λ s. IsNumbered s names.values))
 
-  in_statement : {before : List Declaration} {names : Names} {form : StatementForm} {s : Statement} → IsStatement before names form s → IsNumbered s names.values
+  in_statement : {before : List Declaration} {readers : Readers} {names : Names} {form : StatementForm} {s : Statement} → IsStatement before readers names form s → IsNumbered s names.values
   in_statement (act a) = in_acted a
-  in_statement {before} {names} (act_else a h t) = handled names.values (in_acted a) (in_block h) t
-  in_statement {before} {names} (try xs ys a b t) = handled names.values (in_block a) (in_block b) t
+  in_statement {before} {readers} {names} (act_else a h t) = handled names.values (in_acted a) (in_block h) t
+  in_statement {before} {readers} {names} (try xs ys a b t) = handled names.values (in_block a) (in_block b) t
+  in_statement {names = names} (try_told xs ys new room a b t) = (refl, handled (names.values + 1) (in_block a) (in_block b) t)
   in_statement (if xs ys c a b) = (in_block a, in_block b)
-  in_statement {before} {names} (if_lock {text = text} xs ys {a = a} place x y) = (beside names text a (in_block x), in_block y)
+  in_statement {before} {readers} {names} (if_lock {text = text} xs ys {a = a} place x y) = (beside names text a (in_block x), in_block y)
   in_statement (repeat xs deep c a) = in_block a
   in_statement (repeat_up_to xs deep n has turn c a) = in_block a
-  in_statement {before} {names} (for_each xs deep new room has e c a v) = walk names.values (in_block a) v
+  in_statement {before} {readers} {names} (for_each xs deep new room has e c a r v) = walk names.values (renewing (names.values + 1) r (in_block a)) v
   in_statement (block_alone xs a) = in_block a
 
-  in_acted : {before : List Declaration} {names : Names} {a : Action} {s : Statement} → IsActed before names a s → IsNumbered s names.values
+  in_acted : {before : List Declaration} {readers : Readers} {names : Names} {a : Action} {s : Statement} → IsActed before readers names a s → IsNumbered s names.values
   in_acted (plain a) = action a
+  in_acted {names = names} (requires r) = requiring names.values r
+  in_acted {names = names} (fails f) = failing names.values f
+  in_acted {names = names} (fails_with c f) = failing names.values f
   in_acted (used arguments index part given nests) = in_given given
 
-  in_given : {before : List Declaration} {outer names : Names} {ps : List Parameter} {args : List TextExpression} {body : List TextStatement} {s : Statement} → IsGiven before outer names ps args body s →
+  in_given : {before : List Declaration} {readers : Readers} {outer names : Names} {ps : List Parameter} {args : List TextExpression} {body : List TextStatement} {s : Statement} → IsGiven before readers outer names ps args body s →
       IsNumbered s names.values
   in_given (all_given b) = in_block b
   in_given (node_given {a = a} argument g rest) = subst (λ (n : Names). IsNumbered a n.values) g.later_is (in_given rest)
   in_given (variable_given {a = a} argument g rest) = subst (λ (n : Names). IsNumbered a n.values) g.later_is (in_given rest)
   in_given (value_given {a = a} argument g rest) = (refl, subst (λ (n : Names). IsNumbered a n.values) g.later_is (in_given rest))
 
+caught : {names : Names} {why : Option Name} {body handler handled : Statement} → IsNumbered body (names_in_body names why).values → IsNumbered handler (names_in_else names why).values →
+    IsCaught names body handler why handled → IsNumbered handled names.values
+caught {names} x y (unnamed t) = handled names.values x y t
+caught {names} x y (named t) = (refl, handled (names.values + 1) x y t)
+
 in_body : {before : List Declaration} {names : Names} {text : TextProcedure} {s : Statement} → IsBody before names text s → IsNumbered s names.values
-in_body {before} {names} b = handled names.values (handled names.values (in_block b.body_is) (in_block b.handler_is) b.handled_is) tt b.whole_is
+in_body {before} {names} b = handled names.values (caught {names = names} (in_block b.body_is) (in_block b.handler_is) b.handled_is) tt b.whole_is
 
 -- ---- procedures
 

@@ -25,7 +25,7 @@ use Rattle.tl_lowering.specs.declared.program.Place.{Place}
 use Rattle.tl_lowering.specs.declared.program.Statement.{Statement}
 use Rattle.tl_lowering.specs.Alike.{SameNumber, same_constant, same_value, same_field, same_children, same_operation, SameCondition, same_less, same_greater, same_equal, same_not, same_and, SamePlace, same_node, same_child, same_pair, SameStatement, same_skip, same_sequence, same_assign, same_write, same_emit, same_free, same_descend, same_take, same_break, same_return, same_fail, same_if, same_let, AllSame, none_same, more_same}
 use Rattle.tl_lowering.specs.Names.{Names, stands_for, field_named, with_node, with_place}
-use Rattle.tl_lowering.specs.Naming.{IsCalculated, calculated, IsNumber, number, constant, is_narrow, IsLiteral, short_number, long_number, value, index, field, children, negated, operation, folded, IsConstant, written, known, opposed, combined, IsCount, count, IsNot, opposite, IsBoth, together, IsComparison, IsCondition, comparison, negation, conjunction, disjunction, IsPlace, node, child, pair, IsThen, then, IsHalved, none, one, more, IsChanged, AreEmits, no_emits, next_emit, IsUpdate, AreWritten, all_computed, next_computed, IsWritten, one_write, several_writes, IsAction, assigns, writes, emits, requires, descends, takes, frees, breaks, returns, fails}
+use Rattle.tl_lowering.specs.Naming.{IsCalculated, calculated, IsNumber, number, constant, is_narrow, IsLiteral, short_number, long_number, value, index, field, children, negated, operation, folded, IsConstant, written, known, opposed, combined, IsCount, count, IsNot, opposite, IsBoth, together, IsComparison, IsCondition, comparison, negation, conjunction, disjunction, IsPlace, node, child, pair, IsThen, then, IsHalved, none, one, more, IsChanged, AreEmits, no_emits, next_emit, IsUpdate, AreWritten, all_computed, next_computed, IsWritten, one_write, several_writes, IsAction, assigns, writes, emits, descends, takes, frees, breaks, returns}
 
 -- ---- numbers and conditions
 
@@ -212,7 +212,6 @@ alike_action {names} s (assigns {change = change} g n c has) (assigns {x = y} {e
     same_assign (cc) (alike_changed change (same_value cc) (alike_number same.2 n m) c (subst (λ z. IsChanged (E.Value y) z e f) (sym same.1) d))
 alike_action s (writes g) (writes h) = let same = write_of s in alike_written same.0 same.1 g h
 alike_action s (emits g) (emits h) = alike_halved (alike_emits (emit_of s) refl refl g.each h.each) g.joined h.joined
-alike_action s (requires c) (requires d) = same_if (alike_condition (require_of s) c d) same_skip same_fail
 alike_action {names} s (descends a g n has) (descends b h m its) =
     let same = descend_of s in let w = sym g ∙ ap (stands_for names) same.0 ∙ h in same_descend (cc) (alike_number same.1 n m)
 alike_action {names} s (takes g i) (takes h j) =
@@ -221,11 +220,6 @@ alike_action {names} s (takes g i) (takes h j) =
 alike_action {names} s (frees g) (frees h) = let w = sym g ∙ ap (stands_for names) (free_of s) ∙ h in same_free cc
 alike_action s (breaks a) (breaks b) = same_break
 alike_action s returns returns = same_return
-alike_action s fails fails = same_fail
 alike_action s (breaks a) returns = let no = leave_of s in cc
-alike_action s (breaks a) fails = let no = leave_of s in cc
 alike_action s returns (breaks b) = let no = leave_of s in cc
-alike_action s returns fails = let no = leave_of s in cc
-alike_action s fails (breaks b) = let no = leave_of s in cc
-alike_action s fails returns = let no = leave_of s in cc
 alike_action s x y = absurd (omega (arith, same_action_rank s))

@@ -1,5 +1,5 @@
 -- Texts with alike declarations have the same program, except for the memory that its parts occupy.
-use Rattle.std.proofs.Common.{◌≡◌, ◌∙◌, ℕ, zero, suc, ℤ, List, [], ◌∷◌, ◌++◌, length, get_or, refl, sym, ap, ap₂, subst, arith}
+use Rattle.std.proofs.Common.{◌≡◌, ◌∙◌, ℕ, zero, suc, ℤ, List, [], ◌∷◌, ◌++◌, length, get_or, Option, None, refl, sym, ap, ap₂, subst, arith}
 use Rattle.tl_syntax.specs.declared.parsed.Name.{Name}
 use Rattle.tl_syntax.specs.declared.parsed.Expression.{Expression}
 use Rattle.tl_syntax.specs.declared.parsed.Procedure.{Procedure as TextProcedure}
@@ -15,9 +15,9 @@ use Rattle.tl_syntax.proofs.TokensOnce.{tokens_once}
 use Rattle.tl_syntax.proofs.DeclarationsOnce.{file_once}
 use Rattle.tl_lowering.specs.declared.program.Procedure.{Procedure}
 use Rattle.tl_lowering.specs.declared.program.Statement.{Statement}
-use Rattle.tl_lowering.specs.Alike.{SameStatement, same_skip, SameProcedure, SameProcedures, no_procedures, more_procedures}
+use Rattle.tl_lowering.specs.Alike.{SameStatement, same_skip, same_let, same_constant, SameProcedure, SameProcedures, no_procedures, more_procedures}
 use Rattle.tl_lowering.specs.Names.{Names, with_constant, with_field, with_procedure, with_values, without_meaning}
-use Rattle.tl_lowering.specs.Reading.{IsBody, IsProcedure, IsProgram, IsWithField, AreDeclared, none_declared, next_field, next_constant, next_procedure, next_part}
+use Rattle.tl_lowering.specs.Reading.{IsBlock, readers_in, names_in_body, names_in_else, IsCaught, unnamed, named, IsBody, IsProcedure, IsProgram, IsWithField, AreDeclared, none_declared, next_field, next_constant, next_procedure, next_part}
 use Rattle.tl_lowering.proofs.AlikeLemmas.{alike_constant}
 use Rattle.tl_lowering.proofs.AlikeBlocks.{block_itself, alike_block, AlikeBefore, tried_of}
 
@@ -37,10 +37,19 @@ paired_length (paired_declaration x h) = ap suc (paired_length h)
 
 -- ---- procedures
 
+caught_of : {names : Names} {why : Option Name} {a b c d e f : Statement} → SameStatement a c → SameStatement b d → IsCaught names a b why e → IsCaught names c d why f → SameStatement e f
+caught_of x y (unnamed t) (unnamed u) = tried_of x y t u
+caught_of x y (named t) (named u) = same_let refl (same_constant refl) (tried_of x y t u)
+
 alike_body : {before later : List Declaration} {names : Names} {text other : TextProcedure} {a b : Statement} → AlikeBefore before later → AlikeProcedure text other → IsBody before names text a →
     IsBody later names other b → SameStatement a b
-alike_body parts s g h =
-    tried_of (tried_of (alike_block parts s.body g.body_is h.body_is) (alike_block parts s.otherwise g.handler_is h.handler_is) g.handled_is h.handled_is) same_skip g.whole_is h.whole_is
+alike_body {later = later} {names} {text} {other} parts s g h =
+    let body : IsBlock later (readers_in names text.why) (names_in_body names text.why) other.body.items h.body =
+    subst (λ z. IsBlock later (readers_in names z) (names_in_body names z) other.body.items h.body) (sym s.why) h.body_is in
+    let handler : IsBlock later (record { code = None }) (names_in_else names text.why) other.otherwise.items h.handler =
+    subst (λ z. IsBlock later (record { code = None }) (names_in_else names z) other.otherwise.items h.handler) (sym s.why) h.handler_is in
+    let handled : IsCaught names h.body h.handler text.why h.handled = subst (λ z. IsCaught names h.body h.handler z h.handled) (sym s.why) h.handled_is in
+    tried_of (caught_of (alike_block parts s.body g.body_is body) (alike_block parts s.otherwise g.handler_is handler) g.handled_is handled) same_skip g.whole_is h.whole_is
 
 same_later : {k : ℕ} {names a b : Names} {name : Name} {x y : Expression} → AlikeForm x.form y.form → IsWithField k names name x a → IsWithField k names name y b → a ≡ b
 same_later {k} {names} {name = name} s g h =
@@ -58,7 +67,7 @@ alike_procedure {spellings} {before} {later} {names} {other = other} {q = q} par
 }
 
 procedure_itself : {spellings : List (List ℕ)} {before : List Declaration} {names : Names} {text : TextProcedure} {p : Procedure} → IsProcedure spellings before names text p → AlikeProcedure text text
-procedure_itself f = record { mark = refl; name = refl; arguments = refl; body = block_itself f.body.body_is; otherwise = block_itself f.body.handler_is }
+procedure_itself f = record { mark = refl; name = refl; arguments = refl; body = block_itself f.body.body_is; why = refl; otherwise = block_itself f.body.handler_is }
 
 pub alike_procedures : {spellings : List (List ℕ)} {before later : List Declaration} {names : Names} {ds es : List Declaration} {ps qs : List Procedure} → PairedDeclarations before later →
     PairedDeclarations ds es → AreDeclared spellings before names ds ps → AreDeclared spellings later names es qs → SameProcedures ps qs

@@ -1,8 +1,14 @@
 -- Properties that blocks, loops and procedures get from the blocks within them.
-use Rattle.std.proofs.Common.{◌≡◌, ℕ, zero, suc, ◌+◌, ◌-◌, length, take, drop, true, false, Option, Some, None, replicate, refl, sym, ap, ◌∙◌, subst, arith}
+use Rattle.std.proofs.Common.{◌≡◌, ℕ, zero, suc, ◌+◌, ◌-◌, List, [], pos, length, take, drop, true, false, Option, Some, None, replicate, refl, sym, ap, ◌∙◌, subst, arith}
 use Rattle.std.specs.Prelude.{IfSome, OnOk, Result, Ok, Err, nat_lt, get_or}
 use Rattle.std.proofs.lemmas.Bool.{lt-ltb}
+use Rattle.tl_syntax.specs.declared.parsed.Declaration.{Declaration}
+use Rattle.tl_syntax.specs.declared.parsed.Name.{Name}
+use Rattle.tl_syntax.specs.declared.parsed.Procedure.{Procedure as TextProcedure}
+use Rattle.tl_syntax.specs.declared.parsed.Statement.{Statement as TextStatement}
 use Rattle.tl_instr.specs.declared.operand.TheConstants.{NODE_REGISTERS}
+use Rattle.tl_lowering.specs.declared.lowering.Binding.TheVariants as B
+use Rattle.tl_lowering.specs.declared.program.Expression.TheVariants as E
 use Rattle.tl_lowering.specs.declared.lowering.Draft.{Draft}
 use Rattle.tl_lowering.specs.declared.lowering.Entrance.{Entrance}
 use Rattle.tl_lowering.specs.declared.loops.Repetition.{Repetition}
@@ -11,7 +17,11 @@ use Rattle.tl_lowering.specs.declared.paths.Flow.{Flow}
 use Rattle.tl_lowering.specs.declared.paths.Held.{Held}
 use Rattle.tl_lowering.specs.declared.program.Statement.{Statement}
 use Rattle.tl_lowering.specs.declared.program.Statement.TheVariants as S
+use Rattle.tl_lowering.specs.Atomic.{IsAtomic}
 use Rattle.tl_lowering.specs.Blocks.{then_of, Standing, AreFree}
+use Rattle.tl_lowering.specs.Drafts.{IsHandled, IsHeard, Binds, binds_value}
+use Rattle.tl_lowering.specs.Names.{Names, IsNew, HasValue, with_unnamed}
+use Rattle.tl_lowering.specs.Reading.{IsTried, tried, IsBlock, IsBody, IsCaught, unnamed, named}
 use Rattle.tl_lowering.specs.Lowering.{IsInside, behind_opened, behind_draft, IsDraft, entered, nodes_in}
 use Rattle.tl_lowering.specs.Outcomes.{handled_by, after, fails}
 use Rattle.tl_lowering.specs.Paths.{Paths, bits, nodes_of, known, paths_of, outcomes, keeping}
@@ -124,6 +134,10 @@ is_turn scope inner held start inside r body flow checked l v n o i e p kept =
       paths = paths;
     }
 
+pub turn_in : {d e m n : ℕ} {held : Nodes} {r : Repetition} {body : Statement} {flow : Flow} → d ≡ e → m ≡ n → IsTurn d m held r body flow → IsTurn e n held r body flow
+turn_in {e = e} {m = m} {held = held} {r = r} {body = body} {flow = flow} v n t =
+    subst (λ z. IsTurn e z held r body flow) n (subst (λ z. IsTurn z m held r body flow) v t)
+
 -- ---- a procedure
 
 none_is : (k n : ℕ) → get_or (replicate k false) n false ≡ false
@@ -147,3 +161,62 @@ body_sound scope held s a b flow e l f g =
       subst (λ z. IsWellFormed z scope.values scope.nodes none_held (is_in_loop scope)) (sym f) sound,
       subst (λ z. IsWellFormed z scope.values scope.nodes (handled_by none_held (all_of (fails a none_held))) (is_in_loop scope)) (sym g) tt,
     )
+
+pub whole_sound : {scope : View} {held : Held} {s whole : Statement} {flow : Flow} → held.nodes ≡ 0 → IsLowered scope held s flow → IsTried s S.Skip whole → IsWellFormed whole scope.values scope.nodes none_held (is_in_loop scope)
+whole_sound {scope} {held} {s} {flow = flow} e l tried = body_sound scope held s s S.Skip flow e l refl refl
+
+pub whole_handled : {s whole : Statement} → IsTried s S.Skip whole → fails whole none_held ≡ []
+whole_handled tried = refl
+
+-- ---- the body of a procedure
+
+unnamed_body : {before : List Declaration} {names : Names} (text : TextProcedure) {body handler handled whole : Statement} → text.why ≡ None → IsBlock before (record { code = None }) names text.body.items body
+    → IsBlock before (record { code = None }) names text.otherwise.items handler → IsTried body handler handled → IsTried handled S.Skip whole → (text.is_atomic ≡ true → IsAtomic body) → (text.is_atomic ≡ true → IsAtomic handled)
+    → IsBody before names text whole
+unnamed_body text {body} {handler} {handled} e b h t w atomic other = record {
+  body = body;
+  handler = handler;
+  handled = handled;
+  room = rw e tt;
+  body_is = rw e b;
+  handler_is = rw e h;
+  handled_is = rw e (unnamed t);
+  whole_is = w;
+  atomic = atomic;
+  atomic_else = other;
+}
+
+caught_of : {names : Names} {why : Name} {body handler attempt whole : Statement} → IsTried body handler attempt → Binds (B.Value names.values (E.Constant (pos 0))) attempt whole → IsCaught names body handler (Some why) whole
+caught_of t binds_value = named t
+
+heard_body : {before : List Declaration} {names : Names} {why : Name} (text : TextProcedure) {body handled whole : Statement} → text.why ≡ Some why → IsNew names why → HasValue names
+    → IsBlock before (record { code = Some names.values }) (with_unnamed names) text.body.items body → IsHeard before (record { code = None }) names why body text.otherwise.items handled → IsTried handled S.Skip whole
+    → (text.is_atomic ≡ true → IsAtomic body) → (text.is_atomic ≡ true → IsAtomic handled) → IsBody before names text whole
+heard_body {why = why} text {body} {handled} e new room b h w atomic other = record {
+  body = body;
+  handler = h.other;
+  handled = handled;
+  room = rw e (new, room);
+  body_is = rw e b;
+  handler_is = rw e h.block;
+  handled_is = rw e (caught_of {why = why} h.tried h.bound);
+  whole_is = w;
+  atomic = atomic;
+  atomic_else = other;
+}
+
+-- one whose `else` doesn't name the code
+pub plain_body : {before : List Declaration} {names here : Names} (text : TextProcedure) {body handled whole : Statement} {block handler : List TextStatement} → text.why ≡ None → here ≡ names → block ≡ text.body.items
+    → handler ≡ text.otherwise.items → IsBlock before (record { code = None }) names block body → IsHandled before (record { code = None }) here body handler handled → IsTried handled S.Skip whole
+    → (text.is_atomic ≡ true → IsAtomic body) → (text.is_atomic ≡ true → IsAtomic handled) → IsBody before names text whole
+plain_body {before} {names} {here} text {body} e l f g b h w atomic other =
+    unnamed_body text e (subst (λ z. IsBlock before (record { code = None }) names z body) f b)
+    (subst (λ n. IsBlock before (record { code = None }) n text.otherwise.items h.other) l (subst (λ z. IsBlock before (record { code = None }) here z h.other) g h.block)) h.tried w atomic other
+
+-- one whose `else` does
+pub told_body : {before : List Declaration} {names here : Names} {why : Name} (text : TextProcedure) {body handled whole : Statement} {block handler : List TextStatement} → text.why ≡ Some why → here ≡ names → block ≡ text.body.items
+    → handler ≡ text.otherwise.items → IsNew names why → HasValue names → IsBlock before (record { code = Some names.values }) (with_unnamed names) block body
+    → IsHeard before (record { code = None }) here why body handler handled → IsTried handled S.Skip whole → (text.is_atomic ≡ true → IsAtomic body) → (text.is_atomic ≡ true → IsAtomic handled) → IsBody before names text whole
+told_body {before} {names} {here} {why} text {body} {handled} e l f g new room b h w atomic other =
+    heard_body text e new room (subst (λ z. IsBlock before (record { code = Some names.values }) (with_unnamed names) z body) f b)
+    (subst (λ n. IsHeard before (record { code = None }) n why body text.otherwise.items handled) l (subst (λ z. IsHeard before (record { code = None }) here why body z handled) g h)) w atomic other

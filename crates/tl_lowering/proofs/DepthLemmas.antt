@@ -1,5 +1,5 @@
 -- The blocks of a statement are smaller than the statement, and a part weighs less than all that stand before its use.
-use Rattle.std.proofs.Common.{◌≡◌, ℕ, zero, suc, ◌+◌, ◌*◌, ◌<◌, ◌≤◌, List, [], ◌∷◌, length, take, Option, Some, Vec, Global, sym, ap, subst, refl, arith}
+use Rattle.std.proofs.Common.{◌≡◌, ℕ, zero, suc, ◌+◌, ◌*◌, ◌<◌, ◌≤◌, List, [], ◌∷◌, length, take, max, Option, Some, Vec, Global, sym, ap, subst, refl, arith}
 use Rattle.std.specs.Prelude.{slice_get}
 use Rattle.tl_syntax.specs.declared.parsed.Name.{Name}
 use Rattle.tl_syntax.specs.declared.parsed.Expression.{Expression}
@@ -25,11 +25,11 @@ in_else f a o e = in_act f a (Some o) o e refl
 in_repeat : (f : StatementForm) (turns : Expression) (at_most : Option Expression) (body : Vec Statement Global) → f ≡ Repeat turns at_most body → most statement.the_size body.items < form.the_size f
 in_repeat f turns at_most body e = grind (arith, the_lemmas)
 
-in_try : (f : StatementForm) (body handler : Vec Statement Global) → f ≡ Try body handler → most statement.the_size body.items < form.the_size f
-in_try f body handler e = grind (arith, the_lemmas)
+in_try : (f : StatementForm) (why : Option Name) (body handler : Vec Statement Global) → f ≡ Try why body handler → most statement.the_size body.items < form.the_size f
+in_try f why body handler e = grind (arith, the_lemmas)
 
-in_handler : (f : StatementForm) (body handler : Vec Statement Global) → f ≡ Try body handler → most statement.the_size handler.items < form.the_size f
-in_handler f body handler e = grind (arith, the_lemmas)
+in_handler : (f : StatementForm) (why : Option Name) (body handler : Vec Statement Global) → f ≡ Try why body handler → most statement.the_size handler.items < form.the_size f
+in_handler f why body handler e = grind (arith, the_lemmas)
 
 in_first : (f : StatementForm) (q : Question) (body otherwise : Vec Statement Global) → f ≡ If q body otherwise → most statement.the_size body.items < form.the_size f
 in_first f q body otherwise e = grind (arith, the_lemmas)
@@ -71,11 +71,9 @@ falls t k w f block items e is few lt = let same : most statement.the_size block
 pub falls_in_else : (t k w : ℕ) (f : StatementForm) (a : Action) (o : Otherwise) (block : List Statement) → 4 * form.the_size f + 3 + w ≡ t → block ≡ (out-Otherwise o).body.items → k < 4 → f ≡ Act a (Some o) → 4 * most statement.the_size block + k + w < t
 falls_in_else t k w f a o block e is few at = falls t k w f block (out-Otherwise o).body.items e is few (in_else f a o at)
 
-pub falls_in_try : (t k w : ℕ) (f : StatementForm) (body handler : Vec Statement Global) (block : List Statement) → 4 * form.the_size f + 3 + w ≡ t → block ≡ body.items → k < 4 → f ≡ Try body handler → 4 * most statement.the_size block + k + w < t
-falls_in_try t k w f body handler block e is few at = falls t k w f block body.items e is few (in_try f body handler at)
-
-pub falls_in_handler : (t k w : ℕ) (f : StatementForm) (body handler : Vec Statement Global) (block : List Statement) → 4 * form.the_size f + 3 + w ≡ t → block ≡ handler.items → k < 4 → f ≡ Try body handler → 4 * most statement.the_size block + k + w < t
-falls_in_handler t k w f body handler block e is few at = falls t k w f block handler.items e is few (in_handler f body handler at)
+pub falls_in_tried : (t w : ℕ) (f : StatementForm) (why : Option Name) (body handler : Vec Statement Global) (first second : List Statement) → 4 * form.the_size f + 3 + w ≡ t → first ≡ body.items → second ≡ handler.items → f ≡ Try why body handler
+    → 4 * max (most statement.the_size first) (most statement.the_size second) + 4 + w < t
+falls_in_tried t w f why body handler first second e is same at = rw (is, same) (let one = in_try f why body handler at in let two = in_handler f why body handler at in omega arith)
 
 pub falls_in_first : (t k w : ℕ) (f : StatementForm) (q : Question) (body otherwise : Vec Statement Global) (block : List Statement) → 4 * form.the_size f + 3 + w ≡ t → block ≡ body.items → k < 4 → f ≡ If q body otherwise → 4 * most statement.the_size block + k + w < t
 falls_in_first t k w f q body otherwise block e is few at = falls t k w f block body.items e is few (in_first f q body otherwise at)

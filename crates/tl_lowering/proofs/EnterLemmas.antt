@@ -383,6 +383,9 @@ pub body_enters : (e : Before) (s a b : Statement) → a ≡ s → b ≡ S.Skip 
 body_enters e s a b f g x =
     (subst (λ z. EntersOnce z e) (sym f) x, subst (λ z. EntersOnce z (or_else_of (entered a e).fails e)) (sym g) tt)
 
+pub whole_enters : (e : Before) {s whole : Statement} → IsTried s S.Skip whole → EntersOnce s e → EntersOnce whole e
+whole_enters e {s} tried x = body_enters e s s S.Skip refl refl x
+
 -- ---- what is locked
 
 pub node_enters : (e : Before) (l : Locking) (n : ℕ) (number : Expression) → l.place ≡ P.Node n number → e.entered ≡ false → l.held.is_entered ≡ true → passed_of l.held ≡ without_node e.passed n → IsEnteringPlace e l

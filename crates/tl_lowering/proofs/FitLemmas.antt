@@ -1,5 +1,5 @@
 -- What is read uses only registers that exist, and its loops have positive counts and don't nest too deep.
-use Rattle.std.proofs.Common.{◌≡◌, ℕ, ◌+◌, ◌/◌, ◌<◌, ◌≤◌, List, [], ◌∷◌, length, Option, sym, subst, arith}
+use Rattle.std.proofs.Common.{◌≡◌, ℕ, ℤ, ◌+◌, ◌/◌, ◌<◌, ◌≤◌, List, [], ◌∷◌, length, Option, None, Some, refl, sym, subst, arith}
 use Rattle.std.specs.Prelude.{max, nat_lt, false}
 use Rattle.std.specs.List.{All}
 use Rattle.std.proofs.lemmas.List.Elements.{All-nil, All-cons, All-head, All-push, All-take, All-drop}
@@ -26,11 +26,14 @@ use Rattle.tl_lowering.specs.declared.program.Procedure.{Procedure}
 use Rattle.tl_lowering.specs.declared.program.Statement.{Statement}
 use Rattle.tl_lowering.specs.declared.program.Statement.TheVariants as S
 use Rattle.tl_lowering.specs.Fit.{loops, AllTurn, AllSlots, HasBoth, IsWord, HasConditionRoom, HasRoom}
+use Rattle.tl_lowering.specs.Failing.{Readers, IsFailure, bare, coded, IsMarked, not_read, sure, marked, IsRenewed, not_renewed, renewed}
+use Rattle.tl_lowering.specs.Registers.{HasTemporaries}
+use Rattle.tl_lowering.specs.declared.program.Expression.TheVariants as E
 use Rattle.tl_lowering.specs.Names.{Names, names_in, HasNode, in_loop, with_node, with_index, with_value, with_alias, with_variable, with_place}
-use Rattle.tl_lowering.specs.Naming.{IsCount, count, IsPlace, node, child, pair, calculated, opposite, together, IsComparison, IsCondition, comparison, negation, conjunction, disjunction, then, IsHalved, none, one, more, AreEmits, no_emits, next_emit, AreWritten, all_computed, next_computed, IsWritten, one_write, several_writes, IsAction, assigns, writes, emits, requires, descends, takes, frees, breaks, returns, fails}
+use Rattle.tl_lowering.specs.Naming.{IsCount, count, IsPlace, node, child, pair, calculated, opposite, together, IsComparison, IsCondition, comparison, negation, conjunction, disjunction, then, IsHalved, none, one, more, AreEmits, no_emits, next_emit, AreWritten, all_computed, next_computed, IsWritten, one_write, several_writes, IsAction, assigns, writes, emits, descends, takes, frees, breaks, returns}
 use Rattle.tl_lowering.specs.Outcomes.{fails as failures}
 use Rattle.tl_lowering.specs.Passing.{nothing_before, EntersOnce}
-use Rattle.tl_lowering.specs.Reading.{IsAtOffset, at, IsTried, tried, IsVisiting, visiting, IsBlock, block, AreStatements, no_more, next, let_rest, let_else, lock_rest, lock_else, IsStatement, IsActed, plain, used, IsGiven, all_given, node_given, variable_given, value_given, act, act_else, try, if, if_lock, repeat, repeat_up_to, for_each, block_alone, IsBody}
+use Rattle.tl_lowering.specs.Reading.{IsAtOffset, at, IsTried, tried, IsVisiting, visiting, IsBlock, block, AreStatements, no_more, next, let_rest, let_told, let_else, lock_rest, lock_else, IsStatement, IsActed, plain, requires, fails, fails_with, used, IsReason, no_reason, reason, IsRequired, required, names_in_body, names_in_else, IsCaught, unnamed, named, IsGiven, all_given, node_given, variable_given, value_given, act, act_else, try, try_told, if, if_lock, repeat, repeat_up_to, for_each, block_alone, IsBody}
 use Rattle.tl_lowering.specs.Scopes.{View, is_in_loop}
 use Rattle.tl_lowering.specs.Sets.{none_held}
 use Rattle.tl_lowering.specs.Sound.{IsWellFormed, IsInOrder}
@@ -133,13 +136,11 @@ action : {names : Names} {a : Action} {s : Statement} → names.loops ≤ MAX_DE
 action le (assigns e n c has) = record { turns = tt; slots = tt; depth = omega arith; room = has }
 action le (writes w) = written le w
 action le (emits e) = halved le e.joined (emitted le e.each)
-action le (requires c) = record { turns = (tt, tt); slots = (tt, tt); depth = omega arith; room = (tested c, tt, tt) }
 action le (descends room e n has) = record { turns = tt; slots = room; depth = omega arith; room = has }
 action le (takes e f) = record { turns = tt; slots = tt; depth = omega arith; room = tt }
 action le (frees e) = record { turns = tt; slots = tt; depth = omega arith; room = tt }
 action le (breaks lt) = record { turns = tt; slots = tt; depth = omega arith; room = tt }
 action le returns = record { turns = tt; slots = tt; depth = omega arith; room = tt }
-action le fails = record { turns = tt; slots = tt; depth = omega arith; room = tt }
 
 -- ---- blocks
 
@@ -148,48 +149,90 @@ beside names (T.Node name offset number) le = le
 beside names (T.Child c) le = le
 beside names (T.Pair c d) le = le
 
-failing : {names : Names} → names.loops ≤ MAX_DEPTH → Fits names S.Fail
-failing le = record { turns = tt; slots = tt; depth = omega arith; room = tt }
+-- a failure, whose code takes no computing
+failing : {names : Names} {c : Option ℕ} {e : Expression} {s : Statement} → names.loops ≤ MAX_DEPTH → IsFailure c e s → HasTemporaries e names.values → Fits names s
+failing le bare fits = record { turns = tt; slots = tt; depth = omega arith; room = tt }
+failing le (coded then) fits = record { turns = (tt, tt); slots = (tt, tt); depth = omega arith; room = (fits, tt) }
+
+-- a constant takes no computing
+short : 0 ≤ VALUE_REGISTERS
+short = omega arith
+
+marking : {names : Names} {c : Option ℕ} {a b : Statement} → names.loops ≤ MAX_DEPTH → IsMarked c a b → Fits names a → Fits names b
+marking le not_read x = x
+marking le (sure e) x = x
+marking {names} le (marked e then) x = record { turns = (tt, x.turns); slots = (tt, x.slots); depth = omega (arith, x.depth); room = (short, x.room) }
+
+renewing : {names : Names} {c : Option ℕ} {a b : Statement} → IsRenewed c a b → Fits names a → Fits names b
+renewing not_renewed x = x
+renewing {names} (renewed then) x = record { turns = (x.turns, tt); slots = (x.slots, tt); depth = omega (arith, x.depth); room = (x.room, short) }
+
+reasoned : {names : Names} {why : Option TextExpression} {e : Expression} → IsReason names why e → HasTemporaries e names.values
+reasoned {names} no_reason = short
+reasoned (reason c) = c.fits
+
+requiring : {readers : Readers} {names : Names} {form : Form} {why : Option TextExpression} {s : Statement} → names.loops ≤ MAX_DEPTH → IsRequired readers names form why s → Fits names s
+requiring le (required c r f) = choice (tested c) (record { turns = tt; slots = tt; depth = omega arith; room = tt }) (failing le f (reasoned r))
+
+-- with one value more in use, whatever its name
+heard : (names : Names) {more : Names} {s : Statement} → Fits more s → more.nodes ≡ names.nodes → more.loops ≡ names.loops → more.values ≡ names.values + 1 → Fits (record names { values = names.values + 1 }) s
+heard names {s = s} x n l v = record {
+  turns = x.turns;
+  slots = subst (AllSlots s) n x.slots;
+  depth = omega (arith, x.depth, l);
+  room = subst (HasRoom s) v x.room;
+}
+
+letting : {p : _} {names : Names} {w : ℤ} {s : Statement} → Fits (record names { values = names.values + 1 }) s → Fits names (S.Let' names.values (E.Constant w) p s)
+letting {names = names} x = record { turns = x.turns; slots = x.slots; depth = x.depth; room = (short, x.room) }
 
 mutual
-  in_block : {before : List Declaration} {names : Names} {xs : List TextStatement} {s : Statement} → names.loops ≤ MAX_DEPTH → IsBlock before names xs s → Fits names s
+  in_block : {before : List Declaration} {readers : Readers} {names : Names} {xs : List TextStatement} {s : Statement} → names.loops ≤ MAX_DEPTH → IsBlock before readers names xs s → Fits names s
   in_block le (block are j) = halved le j (in_statements le are)
 
-  in_statements : {before : List Declaration} {names : Names} {xs : List TextStatement} {parts : List Statement} → names.loops ≤ MAX_DEPTH → AreStatements before names xs parts → All (Fits names) parts
-  in_statements {before} {names} le no_more = All-nil (Fits names)
-  in_statements {before} {names} le (next {b = b} {parts = parts} s a rest reached) = All-cons (Fits names) b parts (at_offset (in_statement le s) a) (in_statements le rest)
-  in_statements {before} {names} le (let_rest {a = a} f new room n has body o) =
+  in_statements : {before : List Declaration} {readers : Readers} {names : Names} {xs : List TextStatement} {parts : List Statement} → names.loops ≤ MAX_DEPTH → AreStatements before readers names xs parts → All (Fits names) parts
+  in_statements {before} {readers} {names} le no_more = All-nil (Fits names)
+  in_statements {before} {readers} {names} le (next {b = b} {parts = parts} s m a rest reached) = All-cons (Fits names) b parts (at_offset (marking le m (in_statement le s)) a) (in_statements le rest)
+  in_statements {before} {readers} {names} le (let_rest {a = a} f new room n has told body o) =
       let x = in_block le body in
       All-cons (Fits names) a [] (at_offset (record { turns = x.turns; slots = x.slots; depth = x.depth; room = (has, x.room) }) o) (All-nil (Fits names))
-  in_statements {before} {names} le (let_else {a = a} f new room n has other leaves body o) =
+  in_statements {before} {readers} {names} le (let_told {a = a} f new room n has told other body o) =
+      let x = in_block le body in
+      let y = failing {names = names} le other short in
+      All-cons (Fits names) a [] (at_offset (record { turns = (x.turns, y.turns); slots = (x.slots, y.slots); depth = omega (arith, x.depth, y.depth); room = (has, x.room, y.room) }) o) (All-nil (Fits names))
+  in_statements {before} {readers} {names} le (let_else {a = a} f new room n has other leaves body o) =
       let x = in_block le body in
       let y = in_block le other in
       All-cons (Fits names) a [] (at_offset (record { turns = (x.turns, y.turns); slots = (x.slots, y.slots); depth = omega (arith, x.depth, y.depth); room = (has, x.room, y.room) }) o) (All-nil (Fits names))
-  in_statements {before} {names} le (lock_rest {text = text} {a = a} f place body o) =
-      All-cons (Fits names) a [] (at_offset (locking place (in_block (beside names text le) body) (failing le)) o) (All-nil (Fits names))
-  in_statements {before} {names} le (lock_else {text = text} {a = a} f place other leaves body o) =
+  in_statements {before} {readers} {names} le (lock_rest {text = text} {a = a} f place other body o) =
+      All-cons (Fits names) a [] (at_offset (locking place (in_block (beside names text le) body) (failing {names = names} le other short)) o) (All-nil (Fits names))
+  in_statements {before} {readers} {names} le (lock_else {text = text} {a = a} f place other leaves body o) =
       All-cons (Fits names) a [] (at_offset (locking place (in_block (beside names text le) body) (in_block le other)) o) (All-nil (Fits names))
 
-  in_statement : {before : List Declaration} {names : Names} {form : StatementForm} {s : Statement} → names.loops ≤ MAX_DEPTH → IsStatement before names form s → Fits names s
+  in_statement : {before : List Declaration} {readers : Readers} {names : Names} {form : StatementForm} {s : Statement} → names.loops ≤ MAX_DEPTH → IsStatement before readers names form s → Fits names s
   in_statement le (act a) = in_acted le a
   in_statement le (act_else a h t) = handled (in_acted le a) (in_block le h) t
   in_statement le (try xs ys a b t) = handled (in_block le a) (in_block le b) t
+  in_statement {names = names} le (try_told xs ys new room a b t) = letting {names = names} (handled (heard names (in_block le a) refl refl refl) (heard names (in_block le b) refl refl refl) t)
   in_statement le (if xs ys c a b) = choice (tested c) (in_block le a) (in_block le b)
-  in_statement {before} {names} le (if_lock {text = text} xs ys place a b) = locking place (in_block (beside names text le) a) (in_block le b)
+  in_statement {before} {readers} {names} le (if_lock {text = text} xs ys place a b) = locking place (in_block (beside names text le) a) (in_block le b)
   in_statement le (repeat xs deep c a) = let x = in_block (omega (arith, deep)) a in record { turns = (may_turn c, x.turns); slots = x.slots; depth = omega (arith, x.depth); room = x.room }
   in_statement le (repeat_up_to xs deep n has turn c a) =
       let x = in_block (omega (arith, deep)) a in
       record { turns = (may_turn c, x.turns); slots = x.slots; depth = omega (arith, x.depth); room = (has, turn, x.room) }
-  in_statement le (for_each {child = called} {index = index} xs deep new room has e c a v) = walk called index room has (may_turn c) (in_block (omega (arith, deep)) a) v
+  in_statement le (for_each {child = called} {index = index} xs deep new room has e c a r v) = walk called index room has (may_turn c) (renewing r (in_block (omega (arith, deep)) a)) v
   in_statement le (block_alone xs a) = in_block le a
 
-  in_acted : {before : List Declaration} {names : Names} {a : Action} {s : Statement} → names.loops ≤ MAX_DEPTH → IsActed before names a s → Fits names s
+  in_acted : {before : List Declaration} {readers : Readers} {names : Names} {a : Action} {s : Statement} → names.loops ≤ MAX_DEPTH → IsActed before readers names a s → Fits names s
   in_acted le (plain a) = action le a
+  in_acted le (requires r) = requiring le r
+  in_acted {names = names} le (fails f) = failing {names = names} le f short
+  in_acted le (fails_with c f) = failing le f c.fits
   in_acted le (used arguments index part given nests) =
       let x = in_given (omega arith) given in record { turns = x.turns; slots = x.slots; depth = omega (arith, nests); room = x.room }
 
-  in_given : {before : List Declaration} {outer names : Names} {ps : List Parameter} {args : List TextExpression} {body : List TextStatement} {s : Statement} → names.loops ≤ MAX_DEPTH →
-      IsGiven before outer names ps args body s → Fits names s
+  in_given : {before : List Declaration} {readers : Readers} {outer names : Names} {ps : List Parameter} {args : List TextExpression} {body : List TextStatement} {s : Statement} → names.loops ≤ MAX_DEPTH →
+      IsGiven before readers outer names ps args body s → Fits names s
   in_given le (all_given b) = in_block le b
   in_given {names = names} le (node_given {later = later} {name = name} {a = a} argument g rest) =
       let later_is : later ≡ with_alias names name g.register = g.later_is in
@@ -209,8 +252,18 @@ mutual
 
 -- ---- procedures
 
+caught : {names : Names} {why : Option Name} {body handler handled : Statement} → Fits (names_in_body names why) body → Fits (names_in_else names why) handler → IsCaught names body handler why handled → Fits names handled
+caught x y (unnamed t) = handled x y t
+caught {names} x y (named t) = letting {names = names} (handled (heard names x refl refl refl) (heard names y refl refl refl) t)
+
+within : (names : Names) (why : Option Name) → names.loops ≤ MAX_DEPTH → ((names_in_body names why).loops ≤ MAX_DEPTH) × ((names_in_else names why).loops ≤ MAX_DEPTH)
+within names None le = (le, le)
+within names (Some why) le = (le, le)
+
 in_body : {before : List Declaration} {names : Names} {text : TextProcedure} {s : Statement} → names.loops ≤ MAX_DEPTH → IsBody before names text s → Fits names s
-in_body le b = handled (handled (in_block le b.body_is) (in_block le b.handler_is) b.handled_is) (record { turns = tt; slots = tt; depth = omega arith; room = tt }) b.whole_is
+in_body {names = names} {text = text} le b =
+    let both = within names text.why le in
+    handled (caught (in_block both.0 b.body_is) (in_block both.1 b.handler_is) b.handled_is) (record { turns = tt; slots = tt; depth = omega arith; room = tt }) b.whole_is
 
 pub in_order : {before : List Declaration} (scope : View) (text : TextProcedure) (p : Procedure) → p.arity ≡ scope.values → scope.values ≤ MAX_ARGS → scope.nodes ≡ 0 → scope.loops ≡ 0
     → IsBody before (names_in scope) text p.body → IsWellFormed p.body scope.values scope.nodes none_held (is_in_loop scope) → failures p.body none_held ≡ [] → EntersOnce p.body nothing_before → IsWord p.name.items → IsInOrder p

@@ -21,6 +21,7 @@ use Rattle.tl_lowering.specs.declared.scope.Meaning.TheVariants as M
 use Rattle.tl_lowering.specs.Drafts.{Binds, binds_value}
 use Rattle.tl_lowering.specs.Entering.{before_of}
 use Rattle.tl_lowering.specs.Giving.{IsNodeGiven, IsVariableGiven, IsValueGiven}
+use Rattle.tl_lowering.specs.Failing.{Readers}
 use Rattle.tl_lowering.specs.Names.{Names}
 use Rattle.tl_lowering.specs.Reading.{IsBlock, IsGiven, all_given, node_given, variable_given, value_given}
 use Rattle.tl_lowering.specs.Outcomes.{locked, nodes_behind, handled_by, after, fails}
@@ -58,6 +59,9 @@ in_loops (S.RepeatUpTo' e t p x) d m held b w = w
 in_loops (S.At' offset p x) d m held b w = in_loops x d m held b w
 
 -- with as many registers in use and as many loops around
+pub lowered_there : {here there : View} {held : Held} {a : Statement} {flow : Flow} → here ≡ there → IsLowered here held a flow → IsLowered there held a flow
+lowered_there {held = held} {a = a} {flow = flow} e = subst (λ v. IsLowered v held a flow) e
+
 pub lowered_as : (a b : View) (held : Held) {s : Statement} {flow : Flow} → a.values ≡ b.values → a.nodes ≡ b.nodes → a.loops ≡ b.loops → IsLowered a held s flow → IsLowered b held s flow
 lowered_as a b held {s} v n l h = record {
   sound = subst (λ z. IsWellFormed s z b.nodes (nodes_of held) (is_in_loop b)) v (subst (λ z. IsWellFormed s a.values z (nodes_of held) (is_in_loop b)) n
@@ -121,41 +125,41 @@ in_use_outside t m x r below e = subst (IsBelow t m) e below
 
 -- ---- what is given, one after another
 
-pub given_none : {before : List Declaration} {outer names : Names} {ps : List Parameter} {args : List TextExpression} {body : List TextStatement} {a : Statement} → length ps ≡ 0 → length args ≡ 0
-    → IsBlock before names body a → IsGiven before outer names ps args body a
+pub given_none : {before : List Declaration} {readers : Readers} {outer names : Names} {ps : List Parameter} {args : List TextExpression} {body : List TextStatement} {a : Statement} → length ps ≡ 0 → length args ≡ 0
+    → IsBlock before readers names body a → IsGiven before readers outer names ps args body a
 given_none {ps = []} {args = []} e f b = all_given b
 given_none {ps = []} {args = x ∷ args} e f b = absurd (omega (arith, f))
 given_none {ps = p ∷ ps} e f b = absurd (omega (arith, e))
 
-pub given_node : {before : List Declaration} {outer names later : Names} {ps rest : List Parameter} {args more : List TextExpression} {p : Parameter} {name : Name} {argument : TextExpression} {body : List TextStatement}
-    {a : Statement} → ps ≡ p ∷ rest → p ≡ G.Node name → args ≡ argument ∷ more → IsNodeGiven outer names name argument later → IsGiven before outer later rest more body a
-    → IsGiven before outer names ps args body a
-given_node {before} {outer} {names} {rest = rest} {args = args} {name = name} {argument = argument} {body = body} {a = a} e f g h k =
-    subst (λ z. IsGiven before outer names z args body a) (sym (e ∙ ap (λ z. z ∷ rest) f)) (subst (λ z. IsGiven before outer names (G.Node name ∷ rest) z body a) (sym g) (node_given argument h k))
+pub given_node : {before : List Declaration} {readers : Readers} {outer names later : Names} {ps rest : List Parameter} {args more : List TextExpression} {p : Parameter} {name : Name} {argument : TextExpression} {body : List TextStatement}
+    {a : Statement} → ps ≡ p ∷ rest → p ≡ G.Node name → args ≡ argument ∷ more → IsNodeGiven outer names name argument later → IsGiven before readers outer later rest more body a
+    → IsGiven before readers outer names ps args body a
+given_node {before} {readers} {outer} {names} {rest = rest} {args = args} {name = name} {argument = argument} {body = body} {a = a} e f g h k =
+    subst (λ z. IsGiven before readers outer names z args body a) (sym (e ∙ ap (λ z. z ∷ rest) f)) (subst (λ z. IsGiven before readers outer names (G.Node name ∷ rest) z body a) (sym g) (node_given argument h k))
 
-pub given_variable : {before : List Declaration} {outer names later : Names} {ps rest : List Parameter} {args more : List TextExpression} {p : Parameter} {name : Name} {argument : TextExpression} {body : List TextStatement}
-    {a : Statement} → ps ≡ p ∷ rest → p ≡ G.Variable name → args ≡ argument ∷ more → IsVariableGiven outer names name argument later → IsGiven before outer later rest more body a
-    → IsGiven before outer names ps args body a
-given_variable {before} {outer} {names} {rest = rest} {args = args} {name = name} {argument = argument} {body = body} {a = a} e f g h k =
-    subst (λ z. IsGiven before outer names z args body a) (sym (e ∙ ap (λ z. z ∷ rest) f)) (subst (λ z. IsGiven before outer names (G.Variable name ∷ rest) z body a) (sym g) (variable_given argument h k))
+pub given_variable : {before : List Declaration} {readers : Readers} {outer names later : Names} {ps rest : List Parameter} {args more : List TextExpression} {p : Parameter} {name : Name} {argument : TextExpression} {body : List TextStatement}
+    {a : Statement} → ps ≡ p ∷ rest → p ≡ G.Variable name → args ≡ argument ∷ more → IsVariableGiven outer names name argument later → IsGiven before readers outer later rest more body a
+    → IsGiven before readers outer names ps args body a
+given_variable {before} {readers} {outer} {names} {rest = rest} {args = args} {name = name} {argument = argument} {body = body} {a = a} e f g h k =
+    subst (λ z. IsGiven before readers outer names z args body a) (sym (e ∙ ap (λ z. z ∷ rest) f)) (subst (λ z. IsGiven before readers outer names (G.Variable name ∷ rest) z body a) (sym g) (variable_given argument h k))
 
-bound_given : {before : List Declaration} {outer names later : Names} {rest : List Parameter} {more : List TextExpression} {name : Name} {argument : TextExpression} {body : List TextStatement}
-    {e : Expression} {a whole : Statement} → IsValueGiven outer names name argument e later → IsGiven before outer later rest more body a → Binds (B.Value names.values e) a whole
-    → IsGiven before outer names (G.Value name ∷ rest) (argument ∷ more) body whole
+bound_given : {before : List Declaration} {readers : Readers} {outer names later : Names} {rest : List Parameter} {more : List TextExpression} {name : Name} {argument : TextExpression} {body : List TextStatement}
+    {e : Expression} {a whole : Statement} → IsValueGiven outer names name argument e later → IsGiven before readers outer later rest more body a → Binds (B.Value names.values e) a whole
+    → IsGiven before readers outer names (G.Value name ∷ rest) (argument ∷ more) body whole
 bound_given {argument = argument} h k binds_value = value_given argument h k
 
-pub given_value : {before : List Declaration} {outer names later : Names} {ps rest : List Parameter} {args more : List TextExpression} {p : Parameter} {name : Name} {argument : TextExpression} {body : List TextStatement}
+pub given_value : {before : List Declaration} {readers : Readers} {outer names later : Names} {ps rest : List Parameter} {args more : List TextExpression} {p : Parameter} {name : Name} {argument : TextExpression} {body : List TextStatement}
     {x : ℕ} {number : Expression} {a whole : Statement} → ps ≡ p ∷ rest → p ≡ G.Value name → args ≡ argument ∷ more → IsValueGiven outer names name argument number later → x ≡ names.values
-    → IsGiven before outer later rest more body a → Binds (B.Value x number) a whole → IsGiven before outer names ps args body whole
-given_value {before} {outer} {names} {rest = rest} {args = args} {name = name} {body = body} {number = number} {a = a} {whole = whole} e f g h x k b =
-    subst (λ z. IsGiven before outer names z args body whole) (sym (e ∙ ap (λ z. z ∷ rest) f))
-    (subst (λ z. IsGiven before outer names (G.Value name ∷ rest) z body whole) (sym g) (bound_given h k (subst (λ z. Binds (B.Value z number) a whole) x b)))
+    → IsGiven before readers outer later rest more body a → Binds (B.Value x number) a whole → IsGiven before readers outer names ps args body whole
+given_value {before} {readers} {outer} {names} {rest = rest} {args = args} {name = name} {body = body} {number = number} {a = a} {whole = whole} e f g h x k b =
+    subst (λ z. IsGiven before readers outer names z args body whole) (sym (e ∙ ap (λ z. z ∷ rest) f))
+    (subst (λ z. IsGiven before readers outer names (G.Value name ∷ rest) z body whole) (sym g) (bound_given h k (subst (λ z. Binds (B.Value z number) a whole) x b)))
 
-pub given_at : {before others : List Declaration} {outer o names n : Names} {ps qs : List Parameter} {args : List TextExpression} {body xs : List TextStatement} {a : Statement} → others ≡ before → o ≡ outer → n ≡ names
-    → qs ≡ ps → xs ≡ body → IsGiven others o n qs args xs a → IsGiven before outer names ps args body a
-given_at {before} {others} {outer} {o} {names} {n} {ps} {qs} {args} {body} {xs} {a} e f g h i k =
-    subst (λ z. IsGiven z outer names ps args body a) e (subst (λ z. IsGiven others z names ps args body a) f (subst (λ z. IsGiven others o z ps args body a) g
-    (subst (λ z. IsGiven others o n z args body a) h (subst (λ z. IsGiven others o n qs args z a) i k))))
+pub given_at : {before others : List Declaration} {readers : Readers} {outer o names n : Names} {ps qs : List Parameter} {args : List TextExpression} {body xs : List TextStatement} {a : Statement} → others ≡ before → o ≡ outer → n ≡ names
+    → qs ≡ ps → xs ≡ body → IsGiven others readers o n qs args xs a → IsGiven before readers outer names ps args body a
+given_at {before} {others} {readers} {outer} {o} {names} {n} {ps} {qs} {args} {body} {xs} {a} e f g h i k =
+    subst (λ z. IsGiven z readers outer names ps args body a) e (subst (λ z. IsGiven others readers z names ps args body a) f (subst (λ z. IsGiven others readers o z ps args body a) g
+    (subst (λ z. IsGiven others readers o n z args body a) h (subst (λ z. IsGiven others readers o n qs args z a) i k))))
 
 -- ---- where a turn begins
 

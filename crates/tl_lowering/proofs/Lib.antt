@@ -8,6 +8,7 @@ pub mod DepthLemmas
 pub mod DescendLemmas
 pub mod DraftLemmas
 pub mod EnterLemmas
+pub mod FailureLemmas
 pub mod FitLemmas
 pub mod GivenLemmas
 pub mod JoinLemmas
@@ -15,6 +16,7 @@ pub mod LeaveLemmas
 pub mod LiteralLemmas
 pub mod LoopLemmas
 pub mod LoweringLemmas
+pub mod MarkLemmas
 pub mod NamingLemmas
 pub mod NumberLemmas
 pub mod OpeningLemmas

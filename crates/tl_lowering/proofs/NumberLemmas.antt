@@ -27,7 +27,7 @@ use Rattle.tl_lowering.specs.Names.{Names, stands_for, IsNew, HasNode, with_node
 use Rattle.tl_syntax.specs.declared.parsed.Action.TheVariants as A
 use Rattle.tl_lowering.specs.declared.program.Statement.{Statement}
 use Rattle.tl_lowering.specs.declared.program.Statement.TheVariants as S
-use Rattle.tl_lowering.specs.Naming.{IsAction, AreEmits, no_emits, next_emit, Emits, emits, requires, Locks, IsPlace, node, child, pair, IsCalculated, calculated, IsNumber, IsConstant, IsCount, count, IsNot, opposite, IsBoth, together, IsCompared, IsCondition}
+use Rattle.tl_lowering.specs.Naming.{IsAction, AreEmits, no_emits, next_emit, Emits, emits, Locks, IsPlace, node, child, pair, IsCalculated, calculated, IsNumber, IsConstant, IsCount, count, IsNot, opposite, IsBoth, together, IsCompared, IsCondition}
 use Rattle.tl_syntax.specs.declared.parsed.Comparison.{Comparison}
 
 pub calculated_of : {p q : _} {o : Operator} {l r a b : Expression} → l ≡ a → r ≡ b → IsCalculated o a b (E.Calculated' o p l q r)
@@ -67,11 +67,6 @@ pub counts : {names : Names} {form : Form} {w : ℤ} (z : ℤ) (t : ℕ) → 0 <
 counts {names} {form} {w} z t lt f e g h = count lt (at_most z t f e) (subst (IsConstant names form) (counted z w t f e g) h)
 
 -- ---- a condition that must be true
-
-pub require_of : {p q : _} {names : Names} {x : TextExpression} {c : Condition} {a b : Statement} → a ≡ S.Skip → b ≡ S.Fail → IsCondition names x.form c
-    → IsAction names (A.Require x) (S.If' c p a q b)
-require_of {p} {q} {names} {x} {c} {a} {b} e f h =
-    subst (λ z. IsAction names (A.Require x) (S.If' c p z q b)) (sym e) (subst (λ z. IsAction names (A.Require x) (S.If' c p S.Skip q z)) (sym f) (requires h))
 
 pub emits_at : {names : Names} {whole : Statement} (xs : Vec TextExpression Global) {ys : List TextExpression} → ys ≡ xs.items → Emits names ys whole → IsAction names (A.Emit xs) whole
 emits_at {names} {whole} xs e h = emits (subst (λ z. Emits names z whole) e h)

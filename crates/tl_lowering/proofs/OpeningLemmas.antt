@@ -1,5 +1,5 @@
 -- What a `let` or a `lock` opens, and the choice between two blocks.
-use Rattle.std.proofs.Common.{◌≡◌, ◌∙◌, ℕ, pos, List, [], ◌∷◌, Option, None, Some, sym, ap, subst}
+use Rattle.std.proofs.Common.{◌≡◌, ◌∙◌, ℕ, pos, List, [], ◌∷◌, Bool, true, false, Option, None, Some, sym, ap, subst}
 use Rattle.std.specs.Prelude.{neg_ℤ}
 use Rattle.tl_syntax.specs.declared.parsed.Name.{Name}
 use Rattle.tl_syntax.specs.declared.parsed.Declaration.{Declaration}
@@ -22,8 +22,13 @@ use Rattle.tl_lowering.specs.declared.program.Statement.{Statement}
 use Rattle.tl_lowering.specs.declared.program.Statement.TheVariants as S
 use Rattle.tl_lowering.specs.Names.{Names, with_value, with_place}
 use Rattle.tl_lowering.specs.Naming.{IsCalculated, IsThen, with_locking}
-use Rattle.tl_lowering.specs.Reading.{Leaves, IsVisiting, visiting, IsAtOffset, IsBlock, AreStatements, let_rest, let_else, lock_rest, lock_else}
-use Rattle.tl_lowering.specs.Drafts.{IsOpening, opening_value, opening_nodes, IsElse, no_else, one_else, other_of, Opens, opens_value, opens_value_else, opens_nodes, opens_nodes_else, Binds, binds_value, binds_value_else, binds_nodes}
+use Rattle.tl_lowering.specs.Reading.{Leaves, IsVisiting, visiting, IsAtOffset, IsBlock, AreStatements, let_rest, let_told, let_else, lock_rest, lock_else}
+use Rattle.tl_lowering.specs.Drafts.{IsOpening, opening_value, opening_nodes, IsElse, no_else, missing_else, one_else, other_of, Opens, opens_value, opens_value_told, opens_value_else, opens_nodes, opens_nodes_else, Binds, binds_value, binds_value_else, binds_nodes}
+use Rattle.tl_syntax.specs.Codes.{code_of}
+use Rattle.tl_syntax.specs.declared.failure.Failure.{Failure}
+use Rattle.tl_syntax.specs.declared.failure.Failure.TheVariants as F
+use Rattle.tl_lowering.specs.Failing.{Readers, number_failure, place_failure, is_told, IsFailure, bare}
+use Rattle.tl_lowering.specs.Outcomes.{may_fail}
 use Rattle.tl_lowering.specs.Choosing.{IsChosen, chosen_if, chosen_lock, IsTurning, turning_times, turning_up_to}
 use Rattle.tl_lowering.proofs.JoinLemmas.{same_else}
 
@@ -39,34 +44,55 @@ chooses_lock {p} {q} l {a} {b} {first} {second} e f =
 
 -- ---- a declaration with its `else`
 
-pub value_opens : {before : List Declaration} {names later : Names} {form : StatementForm} {name : Name} {x : ℕ} {e : Expression} → later ≡ with_value names name
-    → IsOpening names form (H.Value name x e) → IsElse before names form None → Opens before names form (B.Value x e) later
-value_opens {before} {names} {form = form} {x = x} {e = e} l (opening_value o f g new room n has) (no_else h) =
-    subst (Opens before names form (B.Value x e)) (sym l) (opens_value (f ∙ ap (T.Act _) (same_else _ _ o None (sym f ∙ h))) g new room n has)
+number_only : (b : Bool) (f : Failure) → number_failure b ≡ Some f → f ≡ F.Number
+number_only true f e = cc
+number_only false f e = cc
 
-pub value_else_opens : {before : List Declaration} {names later : Names} {form : StatementForm} {name : Name} {x : ℕ} {e : Expression} {a : Statement} {flow : Flow} → later ≡ with_value names name → Leaves a
-    → IsOpening names form (H.Value name x e) → IsElse before names form (Some (a, flow)) → Opens before names form (B.ValueElse x e a) later
-value_else_opens {before} {names} {form = form} {x = x} {e = e} {a = a} l leaves (opening_value o f g new room n has) (one_else {o = other} h b) =
-    subst (Opens before names form (B.ValueElse x e a)) (sym l) (opens_value_else (f ∙ ap (T.Act _) (same_else _ _ o (Some other) (sym f ∙ h))) g new room n has b leaves)
+-- a failure that leaves no code
+untold : (c : Option ℕ) (f : Failure) (e : Expression) → is_told c (Some f) ≡ false → IsFailure c e S.Fail
+untold None f e h = bare
+untold (Some r) f e h = cc
 
-pub nodes_opens : {before : List Declaration} {names later : Names} {form : StatementForm} {l : Locking} {a : Statement} (other : Option (Statement × Flow)) → later ≡ with_locking names l
-    → a ≡ other_of other → Leaves a → IsOpening names form (H.Nodes l) → IsElse before names form other → Opens before names form (B.Nodes l.place a) later
-nodes_opens {before} {names} {later} {form} {l} {a} None e g leaves (opening_nodes o {text = w} f k) (no_else h) =
-    subst (Opens before names form (B.Nodes l.place a)) (sym (e ∙ k.names_are))
-    (subst (λ z. Opens before names form (B.Nodes l.place z) (with_place names w)) (sym g) (opens_nodes (f ∙ ap (T.Act _) (same_else _ _ o None (sym f ∙ h))) k.place_is))
-nodes_opens {before} {names} {later} {form} {l} {a} (Some (s, flow)) e g leaves (opening_nodes o {text = w} f k) (one_else {o = other} h b) =
-    subst (Opens before names form (B.Nodes l.place a)) (sym (e ∙ k.names_are))
-    (subst (λ z. Opens before names form (B.Nodes l.place z) (with_place names w)) (sym g) (opens_nodes_else (f ∙ ap (T.Act _) (same_else _ _ o (Some other) (sym f ∙ h))) k.place_is b (subst Leaves g leaves)))
+pub value_opens : {before : List Declaration} {readers : Readers} {names later : Names} {form : StatementForm} {name : Name} {x : ℕ} {e : Expression} → later ≡ with_value names name
+    → IsOpening names form (H.Value name x e) → IsElse before readers names form (H.Value name x e) None → Opens before readers names form (B.Value x e) later
+value_opens {before} {readers} {names} {form = form} {x = x} {e = e} l (opening_value o f g new room n has) (no_else h told) =
+    subst (Opens before readers names form (B.Value x e)) (sym l) (opens_value (f ∙ ap (T.Act _) (same_else _ _ o None (sym f ∙ h))) g new room n has told)
+
+pub value_else_opens : {before : List Declaration} {readers : Readers} {names later : Names} {form : StatementForm} {name : Name} {x : ℕ} {e : Expression} {a : Statement} {flow : Flow} → later ≡ with_value names name → Leaves a
+    → IsOpening names form (H.Value name x e) → IsElse before readers names form (H.Value name x e) (Some (a, flow)) → Opens before readers names form (B.ValueElse x e a) later
+value_else_opens {before} {readers} {names} {form = form} {x = x} {e = e} {a = a} l leaves (opening_value o f g new room n has) (one_else {o = other} h b) =
+    subst (Opens before readers names form (B.ValueElse x e a)) (sym l) (opens_value_else (f ∙ ap (T.Act _) (same_else _ _ o (Some other) (sym f ∙ h))) g new room n has b leaves)
+value_else_opens {before} {readers} {names} {form = form} {x = x} {e = e} {a = a} l leaves (opening_value o f g new room n has) (missing_else h m) =
+    let failure : m.failure ≡ F.Number = number_only (may_fail e) m.failure m.failure_is in
+    subst (Opens before readers names form (B.ValueElse x e a)) (sym l)
+    (opens_value_told (f ∙ ap (T.Act _) (same_else _ _ o None (sym f ∙ h))) g new room n has m.told (subst (λ z. IsFailure readers.code (E.Constant (code_of z)) a) failure m.leaves_code))
+
+pub nodes_opens : {before : List Declaration} {readers : Readers} {names later : Names} {form : StatementForm} {l : Locking} {a : Statement} (other : Option (Statement × Flow)) → later ≡ with_locking names l
+    → a ≡ other_of other → Leaves a → IsOpening names form (H.Nodes l) → IsElse before readers names form (H.Nodes l) other → Opens before readers names form (B.Nodes l.place a) later
+nodes_opens {before} {readers} {names} {later} {form} {l} {a} None e g leaves (opening_nodes o {text = w} f k) (no_else h told) =
+    subst (Opens before readers names form (B.Nodes l.place a)) (sym (e ∙ k.names_are))
+    (subst (λ z. Opens before readers names form (B.Nodes l.place z) (with_place names w)) (sym g)
+    (opens_nodes (f ∙ ap (T.Act _) (same_else _ _ o None (sym f ∙ h))) k.place_is (untold readers.code (place_failure l.place) (E.Constant (code_of (place_failure l.place))) told)))
+nodes_opens {before} {readers} {names} {later} {form} {l} {a} (Some (s, flow)) e g leaves (opening_nodes o {text = w} f k) (missing_else h m) =
+    let failure : m.failure ≡ place_failure l.place = let is = m.failure_is in cc in
+    subst (Opens before readers names form (B.Nodes l.place a)) (sym (e ∙ k.names_are))
+    (subst (λ z. Opens before readers names form (B.Nodes l.place z) (with_place names w)) (sym g)
+    (opens_nodes (f ∙ ap (T.Act _) (same_else _ _ o None (sym f ∙ h))) k.place_is (subst (λ z. IsFailure readers.code (E.Constant (code_of z)) s) failure m.leaves_code)))
+nodes_opens {before} {readers} {names} {later} {form} {l} {a} (Some (s, flow)) e g leaves (opening_nodes o {text = w} f k) (one_else {o = other} h b) =
+    subst (Opens before readers names form (B.Nodes l.place a)) (sym (e ∙ k.names_are))
+    (subst (λ z. Opens before readers names form (B.Nodes l.place z) (with_place names w)) (sym g) (opens_nodes_else (f ∙ ap (T.Act _) (same_else _ _ o (Some other) (sym f ∙ h))) k.place_is b (subst Leaves g leaves)))
 
 -- ---- and with the rest of its block
 
-pub opens_rest : {before : List Declaration} {names inner : Names} {s : TextStatement} {rest : List TextStatement} {b : Binding} {body bound at_offset : Statement} → Opens before names s.form b inner
-    → IsBlock before inner rest body → Binds b body bound → IsAtOffset s.offset bound at_offset → AreStatements before names (s ∷ rest) (at_offset ∷ [])
-opens_rest {s = s} {body = body} {at_offset = at_offset} (opens_value {e = e} f g new room n has) k (binds_value {p = p}) a =
-    let_rest f new room n has k (subst (λ z. IsAtOffset s.offset (S.Let' z e p body) at_offset) g a)
+pub opens_rest : {before : List Declaration} {readers : Readers} {names inner : Names} {s : TextStatement} {rest : List TextStatement} {b : Binding} {body bound at_offset : Statement} → Opens before readers names s.form b inner
+    → IsBlock before readers inner rest body → Binds b body bound → IsAtOffset s.offset bound at_offset → AreStatements before readers names (s ∷ rest) (at_offset ∷ [])
+opens_rest {s = s} {body = body} {at_offset = at_offset} (opens_value {e = e} f g new room n has told) k (binds_value {p = p}) a =
+    let_rest f new room n has told k (subst (λ z. IsAtOffset s.offset (S.Let' z e p body) at_offset) g a)
 opens_rest {s = s} {body = body} {at_offset = at_offset} (opens_value_else {e = e} {other = other} f g new room n has o leaves) k (binds_value_else {p = p} {q = q}) a =
     let_else f new room n has o leaves k (subst (λ z. IsAtOffset s.offset (S.LetElse' z e p body q other) at_offset) g a)
-opens_rest (opens_nodes f h) k binds_nodes a = lock_rest f h k a
+opens_rest {s = s} {body = body} {at_offset = at_offset} (opens_value_told {e = e} {other = other} f g new room n has told o) k (binds_value_else {p = p} {q = q}) a =
+    let_told f new room n has told o k (subst (λ z. IsAtOffset s.offset (S.LetElse' z e p body q other) at_offset) g a)
+opens_rest (opens_nodes f h o) k binds_nodes a = lock_rest f h o k a
 opens_rest (opens_nodes_else f h o leaves) k binds_nodes a = lock_else f h o leaves k a
 
 -- ---- a loop over children

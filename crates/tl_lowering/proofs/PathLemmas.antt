@@ -1,6 +1,6 @@
 -- Sequences of paths, and what is held after a statement.
 use Rattle.std.proofs.Common.{◌≡◌, ℕ, List, [], ◌∷◌, ◌++◌, ◌+◌, ◌<◌, ◌≤◌, take, drop, Bool, Option, Some, None, append-nil, refl, sym, ap, ap₂, ◌∙◌, subst, arith}
-use Rattle.std.specs.Prelude.{option_map, IfSome, IfOk, MatchOption, Result, Ok, Err}
+use Rattle.std.specs.Prelude.{option_map, IfSome, IfOk, OnOk, MatchOption, Result, Ok, Err}
 use Rattle.std.specs.Option.{unwrap_or}
 use Rattle.std.proofs.Math.Seq.{take-add}
 use Rattle.tl_lowering.specs.declared.program.Place.{Place}
@@ -138,6 +138,10 @@ ok_more (Err e) P Q h more = tt
 pub both_ok : {T F : Type 0} (r : Result T F) (P Q R : T → Type 0) → IfOk r P → IfOk r Q → ((x : T) → P x → Q x → R x) → IfOk r R
 both_ok (Ok x) P Q R p q more = more x p q
 both_ok (Err e) P Q R p q more = tt
+
+pub ok_both : {T F : Type 0} (r : Result T F) (A : Type 0) (P Q : T → Type 0) → IfOk r P → OnOk r A → ((x : T) → P x → A → Q x) → IfOk r Q
+ok_both (Ok x) A P Q p a more = more x p a
+ok_both (Err e) A P Q p a more = tt
 
 -- ---- a list of statements, halved
 

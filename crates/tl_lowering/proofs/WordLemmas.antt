@@ -90,8 +90,8 @@ module _ {names : List (List ℕ)} {text : List ℕ} {tokens : List Token} (read
   of_name {i} {n = n} h = at_token read i n.symbol h.stands.kind_is
 
   of_procedure : {i j : ℕ} {t : TextProcedure} → IsText tokens i j t → IsNamed names (D.Procedure t)
-  of_procedure (procedure r p n l a b o) = of_name n
-  of_procedure (procedure_else r p n l a b e o) = of_name n
+  of_procedure (procedure r p n l a b w o) = of_name n
+  of_procedure (procedure_else r p n l a b e w o) = of_name n
 
   of_declaration : {i j : ℕ} {d : Declaration} → IsDeclaration tokens i j d → IsNamed names d
   of_declaration (field f n a m s) = tt

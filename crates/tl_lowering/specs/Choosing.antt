@@ -20,6 +20,7 @@ use Rattle.tl_lowering.specs.declared.program.Expression.{Expression}
 use Rattle.tl_lowering.specs.declared.program.Statement.{Statement}
 use Rattle.tl_lowering.specs.declared.program.Statement.TheVariants as S
 use Rattle.tl_lowering.specs.declared.scope.Meaning.TheVariants as M
+use Rattle.tl_lowering.specs.Failing.{Readers, IsRenewed}
 use Rattle.tl_lowering.specs.Registers.{behind, HasRegisters}
 use Rattle.tl_lowering.specs.Names.{Names, stands_for, AreFresh, HasNode, HasLoop, in_loop, with_index, with_node}
 use Rattle.tl_lowering.specs.Naming.{IsNumber, IsCount, IsCondition, Locks, with_locking}
@@ -70,7 +71,18 @@ pub data IsTurning (body : Statement) : Repetition → Statement → Type 0 wher
   turning_children : {v : Visit} {whole : Statement} → IsVisiting v.index v.child v.parent v.turns body whole →
       IsTurning body (R.Children v) whole
 
-pub record IsLoop (before : List Declaration) (names : Names) (repetition : Repetition) (block : List TextStatement) (whole : Statement) : Type 0 where
+-- what follows the body of a turn
+abbrev pub IsKept : Readers → Repetition → Statement → Statement → Type 0
+IsKept readers (R.Times w) body kept = kept ≡ body
+IsKept readers (R.UpTo e w) body kept = kept ≡ body
+IsKept readers (R.Children v) body kept = IsRenewed readers.code body kept
+
+pub record IsTurnBody (before : List Declaration) (readers : Readers) (names : Names) (repetition : Repetition) (block : List TextStatement) (body : Statement) : Type 0 where
+  pub read : Statement
+  pub read_is : IsBlock before readers (names_within names repetition) block read
+  pub kept_is : IsKept readers repetition read body
+
+pub record IsLoop (before : List Declaration) (readers : Readers) (names : Names) (repetition : Repetition) (block : List TextStatement) (whole : Statement) : Type 0 where
   pub body : Statement
-  pub body_is : IsBlock before (names_within names repetition) block body
+  pub body_is : IsTurnBody before readers names repetition block body
   pub whole_is : IsTurning body repetition whole

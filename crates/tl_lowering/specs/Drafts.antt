@@ -1,6 +1,11 @@
 -- The part of a block that has been read, and what the whole block is lowered to.
-use Rattle.std.specs.Prelude.{◌≡◌, ℕ, ◌+◌, ◌≤◌, List, [], ◌∷◌, ◌++◌, Bool, false, Option, None, Some, reverse, take, slice_get}
+use Rattle.std.specs.Prelude.{◌≡◌, ℕ, ◌+◌, ◌≤◌, List, [], ◌∷◌, ◌++◌, Bool, true, false, Option, None, Some, reverse, take, slice_get, pos}
+use Rattle.std.specs.declared.alloc.Global.{Global}
+use Rattle.std.specs.declared.vec.Vec.{Vec}
 use Rattle.tl_budget.specs.declared.limits.TheConstants.{MAX_DEPTH}
+use Rattle.tl_syntax.specs.Codes.{code_of}
+use Rattle.tl_syntax.specs.declared.failure.Failure.{Failure}
+use Rattle.tl_syntax.specs.declared.failure.Failure.TheVariants as F
 use Rattle.tl_syntax.specs.declared.parsed.Name.{Name}
 use Rattle.tl_syntax.specs.declared.parsed.Expression.{Expression as TextExpression}
 use Rattle.tl_syntax.specs.declared.parsed.Place.{Place as TextPlace}
@@ -22,15 +27,18 @@ use Rattle.tl_lowering.specs.declared.lowering.Opened.{Opened}
 use Rattle.tl_lowering.specs.declared.naming.Locking.{Locking}
 use Rattle.tl_lowering.specs.declared.paths.Flow.{Flow}
 use Rattle.tl_lowering.specs.declared.program.Expression.{Expression}
+use Rattle.tl_lowering.specs.declared.program.Expression.TheVariants as E
 use Rattle.tl_lowering.specs.declared.program.Place.{Place}
 use Rattle.tl_lowering.specs.declared.program.Statement.{Statement}
 use Rattle.tl_lowering.specs.declared.program.Statement.TheVariants as S
+use Rattle.tl_lowering.specs.Failing.{Readers, number_failure, place_failure, is_told, IsFailure}
+use Rattle.tl_lowering.specs.Outcomes.{may_fail}
 use Rattle.tl_lowering.specs.Registers.{HasTemporaries}
 use Rattle.tl_lowering.specs.Fit.{loops}
 use Rattle.tl_lowering.specs.Names.{Names, index_of, inside, IsNew, HasValue, with_value, with_place}
 use Rattle.tl_lowering.specs.Naming.{IsNumber, IsPlace, Locks, IsHalved, declares}
 use Rattle.tl_lowering.specs.Paths.{known}
-use Rattle.tl_lowering.specs.Reading.{Leaves, IsAtOffset, IsTried, IsBlock, AreStatements, IsGiven}
+use Rattle.tl_lowering.specs.Reading.{Leaves, IsAtOffset, IsTried, IsBlock, AreStatements, IsStatement, IsGiven}
 
 -- ---- a declaration
 
@@ -52,14 +60,27 @@ abbrev pub IsHeadOf : Names → StatementForm → Option Head → Type 0
 IsHeadOf names form None = opens form ≡ false
 IsHeadOf names form (Some head) = IsOpening names form head
 
--- the `else` of a declaration, if there is one
-pub data IsElse (before : List Declaration) (names : Names) (form : StatementForm) : Option (Statement × Flow) → Type 0 where
-  no_else : {action : Action} → form ≡ T.Act action None → IsElse before names form None
-  one_else : {action : Action} {o : Otherwise} {a : Statement} {flow : Flow} → form ≡ T.Act action (Some o) →
-      IsBlock before names (out-Otherwise o).body.items a → IsElse before names form (Some (a, flow))
+-- how a declaration may fail before its `else`
+abbrev pub head_failure : Head → Option Failure
+head_failure (H.Value name x e) = number_failure (may_fail e)
+head_failure (H.Nodes locking) = Some (place_failure locking.place)
 
-abbrev pub IsElseOf : List Declaration → Names → StatementForm → Option (Statement × Flow) → Type 0
-IsElseOf before names form other = (action : Action) (o : Option Otherwise) → form ≡ T.Act action o → IsElse before names form other
+-- what a declaration without an `else` does where it fails and the code is read
+pub record IsMissing (readers : Readers) (head : Head) (a : Statement) : Type 0 where
+  pub failure : Failure
+  pub told : is_told readers.code (head_failure head) ≡ true
+  pub failure_is : head_failure head ≡ Some failure
+  pub leaves_code : IsFailure readers.code (E.Constant (code_of failure)) a
+
+-- the `else` of a declaration, if there is one, or if it fails and the code is read
+pub data IsElse (before : List Declaration) (readers : Readers) (names : Names) (form : StatementForm) (head : Head) : Option (Statement × Flow) → Type 0 where
+  no_else : {action : Action} → form ≡ T.Act action None → is_told readers.code (head_failure head) ≡ false → IsElse before readers names form head None
+  missing_else : {action : Action} {a : Statement} {flow : Flow} → form ≡ T.Act action None → IsMissing readers head a → IsElse before readers names form head (Some (a, flow))
+  one_else : {action : Action} {o : Otherwise} {a : Statement} {flow : Flow} → form ≡ T.Act action (Some o) →
+      IsBlock before readers names (out-Otherwise o).body.items a → IsElse before readers names form head (Some (a, flow))
+
+abbrev pub IsElseOf : List Declaration → Readers → Names → StatementForm → Head → Option (Statement × Flow) → Type 0
+IsElseOf before readers names form head other = (action : Action) (o : Option Otherwise) → form ≡ T.Act action o → IsElse before readers names form head other
 
 -- a missing `else` fails
 abbrev pub other_of : Option (Statement × Flow) → Statement
@@ -67,17 +88,22 @@ other_of None = S.Fail
 other_of (Some other) = other.0
 
 -- a declaration with its `else`, and the meanings of names after it
-pub data Opens (before : List Declaration) (names : Names) (form : StatementForm) : Binding → Names → Type 0 where
+pub data Opens (before : List Declaration) (readers : Readers) (names : Names) (form : StatementForm) : Binding → Names → Type 0 where
   opens_value : {name : Name} {number : TextExpression} {x : ℕ} {e : Expression} → form ≡ T.Act (A.Let name number) None →
-      x ≡ names.values → IsNew names name → HasValue names → IsNumber names number.form e → HasTemporaries e names.values → Opens before names form (B.Value x e) (with_value names name)
+      x ≡ names.values → IsNew names name → HasValue names → IsNumber names number.form e → HasTemporaries e names.values →
+      is_told readers.code (number_failure (may_fail e)) ≡ false → Opens before readers names form (B.Value x e) (with_value names name)
+  opens_value_told : {name : Name} {number : TextExpression} {x : ℕ} {e : Expression} {other : Statement} → form ≡ T.Act (A.Let name number) None →
+      x ≡ names.values → IsNew names name → HasValue names → IsNumber names number.form e → HasTemporaries e names.values →
+      is_told readers.code (number_failure (may_fail e)) ≡ true → IsFailure readers.code (E.Constant (code_of F.Number)) other →
+      Opens before readers names form (B.ValueElse x e other) (with_value names name)
   opens_value_else : {name : Name} {number : TextExpression} {o : Otherwise} {x : ℕ} {e : Expression} {other : Statement} →
       form ≡ T.Act (A.Let name number) (Some o) → x ≡ names.values → IsNew names name → HasValue names → IsNumber names number.form e → HasTemporaries e names.values →
-      IsBlock before names (out-Otherwise o).body.items other → Leaves other → Opens before names form (B.ValueElse x e other) (with_value names name)
-  opens_nodes : {text : TextPlace} {place : Place} → form ≡ T.Act (A.Lock text) None → IsPlace names text place →
-      Opens before names form (B.Nodes place S.Fail) (with_place names text)
+      IsBlock before readers names (out-Otherwise o).body.items other → Leaves other → Opens before readers names form (B.ValueElse x e other) (with_value names name)
+  opens_nodes : {text : TextPlace} {place : Place} {other : Statement} → form ≡ T.Act (A.Lock text) None → IsPlace names text place →
+      IsFailure readers.code (E.Constant (code_of (place_failure place))) other → Opens before readers names form (B.Nodes place other) (with_place names text)
   opens_nodes_else : {text : TextPlace} {o : Otherwise} {place : Place} {other : Statement} → form ≡ T.Act (A.Lock text) (Some o) →
-      IsPlace names text place → IsBlock before names (out-Otherwise o).body.items other → Leaves other →
-      Opens before names form (B.Nodes place other) (with_place names text)
+      IsPlace names text place → IsBlock before readers names (out-Otherwise o).body.items other → Leaves other →
+      Opens before readers names form (B.Nodes place other) (with_place names text)
 
 -- the declaration with the rest of its block
 pub data Binds : Binding → Statement → Statement → Type 0 where
@@ -118,23 +144,36 @@ abbrev pub MayFollow : Flow → List TextStatement → Type 0
 MayFollow flow rest = known flow.after ≡ None → rest ≡ []
 
 -- the block is still lowered to `all` if s and then the rest follow the part that was read
-pub record IsExtended (before : List Declaration) (names : Names) (s : TextStatement) (rest : List TextStatement) (draft : Draft) (all : List Statement) : Type 0 where
+pub record IsExtended (before : List Declaration) (readers : Readers) (names : Names) (s : TextStatement) (rest : List TextStatement) (draft : Draft) (all : List Statement) : Type 0 where
   pub items : List Statement
-  pub are : AreStatements before names (s ∷ rest) items
+  pub are : AreStatements before readers names (s ∷ rest) items
   pub becomes : Becomes draft items all
 
 -- a statement with the block of its `else`
-pub record IsHandled (before : List Declaration) (names : Names) (body : Statement) (handler : List TextStatement) (whole : Statement) : Type 0 where
+pub record IsHandled (before : List Declaration) (readers : Readers) (names : Names) (body : Statement) (handler : List TextStatement) (whole : Statement) : Type 0 where
   pub other : Statement
-  pub block : IsBlock before names handler other
+  pub block : IsBlock before readers names handler other
   pub tried : IsTried body other whole
+
+-- a statement whose failure leaves its code in the next value register, with the block of its `else`, in which the name denotes the code
+pub record IsHeard (before : List Declaration) (readers : Readers) (names : Names) (why : Name) (body : Statement) (handler : List TextStatement) (whole : Statement) : Type 0 where
+  pub other : Statement
+  pub attempt : Statement
+  pub block : IsBlock before readers (with_value names why) handler other
+  pub tried : IsTried body other attempt
+  pub bound : Binds (B.Value names.values (E.Constant (pos 0))) attempt whole
+
+-- a `try` of these blocks, wherever the text has them in memory
+abbrev pub IsTry : List Declaration → Readers → Names → Option Name → List TextStatement → List TextStatement → Statement → Type 0
+IsTry before readers names why body handler whole =
+    (xs ys : Vec TextStatement Global) → body ≡ xs.items → handler ≡ ys.items → IsStatement before readers names (T.Try why xs ys) whole
 
 -- ---- a part where it is used
 
-pub record IsUsed (before : List Declaration) (names : Names) (name : Name) (arguments : List TextExpression) (whole : Statement) : Type 0 where
+pub record IsUsed (before : List Declaration) (readers : Readers) (names : Names) (name : Name) (arguments : List TextExpression) (whole : Statement) : Type 0 where
   pub index : ℕ
   pub part : Part
   pub index_is : index_of names name ≡ Some index
   pub part_is : slice_get before index ≡ Some (D.Part part)
-  pub given : IsGiven (take index before) names (inside index names) part.parameters.items arguments part.body.items whole
+  pub given : IsGiven (take index before) readers names (inside index names) part.parameters.items arguments part.body.items whole
   pub nests : names.loops + loops whole ≤ MAX_DEPTH

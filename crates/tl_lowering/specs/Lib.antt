@@ -6,6 +6,7 @@ pub mod Computing
 pub mod Declaring
 pub mod Drafts
 pub mod Entering
+pub mod Failing
 pub mod Fit
 pub mod Giving
 pub mod Lowering

@@ -222,20 +222,23 @@ declares (A.Let name e) = true
 declares (A.Lock p) = true
 declares action = false
 
--- whether the action uses a part
-abbrev pub uses : Action → Bool
-uses (A.Use name arguments) = true
-uses action = false
+-- whether the action declares nothing, uses no part, and leaves no block
+abbrev pub is_plain : Action → Bool
+is_plain (A.Assign name change e) = true
+is_plain (A.Write w ws) = true
+is_plain (A.Emit xs) = true
+is_plain (A.Descend n e) = true
+is_plain (A.Take n from) = true
+is_plain (A.Free n) = true
+is_plain action = false
 
--- an action that declares nothing and uses no part
+-- a plain action, or one that leaves a loop or the procedure
 pub data IsAction (names : Names) : Action → Statement → Type 0 where
   assigns : {name : Name} {change : Change} {a : TextExpression} {x : ℕ} {e f : Expression} → stands_for names name ≡ M.Value x →
       IsNumber names a.form e → IsChanged (E.Value x) change e f → HasTemporaries f names.values →
       IsAction names (A.Assign name change a) (S.Assign x f)
   writes : {w : Write} {ws : Vec Write Global} {whole : Statement} → IsWritten names w ws.items whole → IsAction names (A.Write w ws) whole
   emits : {xs : Vec TextExpression Global} {whole : Statement} → Emits names xs.items whole → IsAction names (A.Emit xs) whole
-  requires : {p q : _} {a : TextExpression} {c : Condition} → IsCondition names a.form c →
-      IsAction names (A.Require a) (S.If' c p S.Skip q S.Fail)
   -- the child is first locked in the next node register
   descends : {node : Name} {a : TextExpression} {n : ℕ} {e : Expression} → HasNode names → stands_for names node ≡ M.Node n →
       IsNumber names a.form e → HasRegisters e names.values → IsAction names (A.Descend node a) (S.Descend n e)
@@ -244,4 +247,3 @@ pub data IsAction (names : Names) : Action → Statement → Type 0 where
   frees : {node : Name} {n : ℕ} → stands_for names node ≡ M.Node n → IsAction names (A.Free node) (S.Free n)
   breaks : 0 < names.loops → IsAction names (A.Leave L.Break) S.Break
   returns : IsAction names (A.Leave L.Return) S.Return
-  fails : IsAction names (A.Leave L.Fail) S.Fail

@@ -124,7 +124,7 @@ impl Scope {
                 };
                 nodes | self.may_descend_else(otherwise)
             }
-            StatementForm::Try(first, second) | StatementForm::If(_, first, second) => {
+            StatementForm::Try(_, first, second) | StatementForm::If(_, first, second) => {
                 self.may_descend(first) | self.may_descend(second)
             }
             StatementForm::Repeat { body, .. }

@@ -2,7 +2,10 @@
 #![tactic(auto)]
 
 mod atomic;
+mod choosing;
 mod descents;
+mod failing;
+mod handling;
 pub mod laws;
 mod loops;
 mod lowering;
@@ -12,6 +15,7 @@ mod paths;
 mod program;
 mod reader;
 mod scope;
+mod sequences;
 mod values;
 mod walks;
 

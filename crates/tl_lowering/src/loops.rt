@@ -3,8 +3,9 @@
 ghost use Rattle.std.specs.Prelude.{◌≡◌, ◌≢◌, ◌+◌, ◌<◌, Bool, true, None, option_map, IfOk, OnOk, IfSome};
 ghost use Rattle.std.specs.Borrow.{Bor};
 ghost use Rattle.tl_lowering.specs.declared.paths.Held.{Held};
+ghost use Rattle.tl_lowering.specs.Failing.{readers_of};
 ghost use Rattle.tl_lowering.specs.Entering.{before_of, entered_at, entered_of, before_body, before_turns, IsEntering};
-ghost use Rattle.tl_lowering.specs.Choosing.{IsRepeated, IsVisited, names_within, IsTurning};
+ghost use Rattle.tl_lowering.specs.Choosing.{IsRepeated, IsVisited, names_within, IsTurning, IsTurnBody, IsLoop};
 ghost use Rattle.tl_lowering.specs.Names.{names_of, AreFresh};
 ghost use Rattle.tl_lowering.specs.declared.scope.Meaning.TheVariants.{Nothing};
 ghost use Rattle.tl_lowering.specs.Passing.{walks, KeepsOut};
@@ -14,13 +15,14 @@ ghost use Rattle.tl_lowering.specs.Paths.{nodes_of, passed_of, known, paths_of, 
 ghost use Rattle.tl_lowering.specs.Repeating.{IsRepetition, IsVisit, IsBody, IsTurn, IsWalk, IsUnpassed, begun, passed_within, more_in};
 ghost use Rattle.tl_lowering.specs.Scopes.{View, view_of, meaning_of, IsInUse, IsAt, IsLowered, Extends};
 
+use crate::descents::passed_down;
 use crate::lowering::{Lowered, Lowering};
 use crate::paths::{Flow, Held, join};
 use crate::program::{Expression, Place, Statement};
 use crate::values::{behind, calculated, check_registers};
 use tl_budget::MAX_DEPTH;
 use tl_instr::{NodeRegister, ValueRegister};
-use tl_syntax::parsed::{self, Name};
+use tl_syntax::parsed::{self, Declaration, Name};
 use tl_syntax::{Operator, SyntaxFault, Wrong};
 
 /// A loop over the children of a node.
@@ -228,7 +230,9 @@ impl Lowering {
     // one was passed.
     fn visiting(&self, visit: Visit, body: Statement) -> Result<Statement, SyntaxFault>
         ensures named { IfOk result (IsVisiting visit.index visit.child visit.parent visit.turns body) }
-        ensures walk { (held : Held) (in_loop : Bool) → IsAt (view_of self.now.scope) held → IsVisit (view_of self.now.scope) held visit → IsBody self.now.scope.values self.now.scope.nodes (nodes_of held) (Repetition.Children visit) body → IfOk result (λ s. IsWalk self.now.scope.values self.now.scope.nodes (nodes_of held) in_loop visit.child body s) }
+        ensures walk { (held : Held) (in_loop : Bool) → IsAt (view_of self.now.scope) held → IsVisit (view_of self.now.scope) held visit
+            → IsBody self.now.scope.values self.now.scope.nodes (nodes_of held) (Repetition.Children visit) body
+            → IfOk result (λ s. IsWalk self.now.scope.values self.now.scope.nodes (nodes_of held) in_loop visit.child body s) }
     {
         let next = calculated(
             self.alloc,
@@ -243,5 +247,68 @@ impl Lowering {
         let count = Expression::Children(visit.parent);
         let turns = Statement::RepeatUpTo(count, visit.turns, self.boxed(turn)?);
         Ok(Statement::Let(visit.index, Expression::Constant(-1), self.boxed(turns)?))
+    }
+
+    // The body of a loop's turn. `start` holds as it begins.
+    #[cycle(lowering)]
+    fn turn(
+        &mut self,
+        before: &[Declaration],
+        reader: Option<ValueRegister>,
+        repetition: &Repetition,
+        body: &[parsed::Statement],
+        offset: usize,
+        start: Held,
+    ) -> Result<Lowered, SyntaxFault>
+        requires at { IsAt (view_of self.old.scope) start }
+        requires repetition { IsRepetition (view_of self.old.scope) start repetition.now }
+        requires depth { self.old.scope.loops < MAX_DEPTH }
+        ensures scope { OnOk result (view_of self.new.scope ≡ view_of self.old.scope) }
+        ensures named { IfOk result (λ l. IsTurnBody before.now (readers_of reader) (names_of self.old.scope) repetition.now body.now l.0) }
+        ensures turn { IfOk result (λ l. IsTurn self.old.scope.values self.old.scope.nodes (nodes_of start) repetition.now l.0 l.1) }
+        ensures entering { IfOk result (λ l. IsEntering (before_body repetition.now (before_of start)) l.0 l.1) }
+        ensures once { IfOk result (λ l. KeepsOut (entered_of l.1).after (before_of start)) }
+    {
+        let mark = self.scope.mark();
+        let inside = self.begin(repetition, start)?;
+        let reader_inside = reader;
+        let (body, flow) = self.block(before, reader_inside, body, inside)?;
+        self.scope.return_to(mark);
+        self.scope.loops = self.scope.loops.saturating_sub(1);
+        let flow = self.check_turn(flow, start, offset)?;
+        let body = self.renewed(reader, repetition, body, offset)?;
+        Ok((body, flow))
+    }
+
+    /// A loop, whose first word stands at the offset. From which nodes a turn goes down is known once its body is read; the text tells
+    /// it before, but of a part only that it may go down from each node that it is given. Where that isn't so, the turn is read again.
+    #[cycle(lowering)]
+    pub fn turns(
+        &mut self,
+        before: &[Declaration],
+        reader: Option<ValueRegister>,
+        repetition: Repetition,
+        body: &[parsed::Statement],
+        offset: usize,
+        held: Held,
+    ) -> Result<Lowered, SyntaxFault>
+        requires at { IsAt (view_of self.old.scope) held }
+        requires repetition { IsRepetition (view_of self.old.scope) held repetition }
+        requires depth { self.old.scope.loops < MAX_DEPTH }
+        requires fresh { IsUnpassed (passed_of held) repetition }
+        ensures scope { OnOk result (view_of self.new.scope ≡ view_of self.old.scope) }
+        ensures named { IfOk result (λ l. IsLoop before.now (readers_of reader) (names_of self.old.scope) repetition body.now l.0) }
+        ensures lowered { IfOk result (λ l. IsLowered (view_of self.old.scope) held l.0 l.1) }
+        ensures entering { IfOk result (λ l. IsEntering (before_of held) l.0 l.1) }
+    {
+        let guess = held.forgetting(self.scope.may_descend(body));
+        let reader_inside = reader;
+        let first = self.turn(before, reader_inside, &repetition, body, offset, guess)?;
+        let start = held.forgetting(passed_down(&repetition, &first.0));
+        if start.visited == guess.visited {
+            return self.repeated(repetition, first, start, held);
+        }
+        let again = self.turn(before, reader, &repetition, body, offset, start)?;
+        self.repeated(repetition, again, start, held)
     }
 }

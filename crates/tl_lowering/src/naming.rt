@@ -11,13 +11,13 @@ ghost use Rattle.tl_lowering.specs.Declaring.{IsLocking, IsDeclarable, IsNewValu
 ghost use Rattle.tl_lowering.specs.Entering.{before_of, entered_of, IsEntering, IsEnteringPlace};
 ghost use Rattle.tl_lowering.specs.Passing.{failing_entered, nowhere_entered};
 ghost use Rattle.tl_lowering.specs.Names.{names_of};
-ghost use Rattle.tl_lowering.specs.Naming.{IsNumber, IsChanged, IsUpdate, AreWritten, IsWritten, rewrites as rewrites_lem, Emits, IsAction, declares, uses, with_locking, Locks};
+ghost use Rattle.tl_lowering.specs.Naming.{IsNumber, IsChanged, IsUpdate, AreWritten, IsWritten, rewrites as rewrites_lem, Emits, IsAction, is_plain, with_locking, Locks};
 ghost use Rattle.tl_lowering.specs.Outcomes.{may_fail as may_fail_lem, condition_may_fail as condition_may_fail_lem};
 ghost use Rattle.tl_lowering.specs.Paths.{nodes_of, paths_of, nowhere, failing_if};
 ghost use Rattle.tl_lowering.specs.Scopes.{View, view_of, IsInUse, IsAt, IsLowered, Extends};
 ghost use Rattle.tl_lowering.specs.Sets.{Nodes, holds};
 ghost use Rattle.tl_lowering.specs.Sound.{IsReadable};
-ghost use Rattle.tl_syntax.specs.declared.parsed.Action.TheVariants.{Assign, Require, Descend, Take, Free, Leave as leave_by};
+ghost use Rattle.tl_syntax.specs.declared.parsed.Action.TheVariants.{Assign, Descend, Take, Free};
 ghost use Rattle.tl_syntax.specs.declared.parsed.Place.TheVariants.{Node as one_node, Child as one_child, Pair as two_children};
 
 use crate::lowering::{Lowered, Lowering};
@@ -27,7 +27,7 @@ use crate::values::{
     behind, calculated, check_registers, condition_may_fail, may_fail, registers_for, registers_of,
 };
 use tl_instr::{Field, NodeRegister, ValueRegister};
-use tl_syntax::parsed::{self, Action, Change, Child, Leave, Name};
+use tl_syntax::parsed::{self, Action, Change, Child, Name};
 use tl_syntax::{Operator, SyntaxFault, Wrong};
 
 /// What is locked, and the names by which it is then held.
@@ -62,7 +62,8 @@ impl Lowering {
         operand: Expression,
     ) -> Result<Expression, SyntaxFault>
         ensures named { IfOk result (IsChanged old change operand) }
-        ensures readable { (values : ℕ) (held : Nodes) → IsReadable values held old → IsReadable values held operand → IfOk result (λ e. IsReadable values held e) }
+        ensures readable { (values : ℕ) (held : Nodes) → IsReadable values held old → IsReadable values held operand
+            → IfOk result (λ e. IsReadable values held e) }
     {
         match change {
             Change::Set => Ok(operand),
@@ -248,19 +249,6 @@ impl Lowering {
         Ok((self.sequence(emits)?, flow))
     }
 
-    fn require(&self, condition: &parsed::Expression, held: Held) -> Result<Lowered, SyntaxFault>
-        requires { IsAt (view_of self.now.scope) held }
-        ensures named { IfOk result (λ l. IsAction (names_of self.now.scope) (Require condition.now) l.0) }
-        ensures lowered { IfOk result (λ l. IsLowered (view_of self.now.scope) held l.0 l.1) }
-        ensures entering { IfOk result (λ l. IsEntering (before_of held) l.0 l.1) }
-    {
-        let condition = self.scope.condition(self.alloc, condition, held)?;
-        let skip = self.boxed(Statement::Skip)?;
-        let fail = self.boxed(Statement::Fail)?;
-        let flow = Flow::on(held).failing(held);
-        Ok((Statement::If(condition, skip, fail), flow))
-    }
-
     fn free(&self, name: Name, held: Held) -> Result<Lowered, SyntaxFault>
         requires { IsAt (view_of self.now.scope) held }
         ensures named { IfOk result (λ l. IsAction (names_of self.now.scope) (Free name) l.0) }
@@ -306,32 +294,10 @@ impl Lowering {
         Ok((Statement::Take(node, other), flow))
     }
 
-    fn leave(&self, leave: Leave, offset: usize, held: Held) -> Result<Lowered, SyntaxFault>
-        requires { IsAt (view_of self.now.scope) held }
-        ensures named { IfOk result (λ l. IsAction (names_of self.now.scope) (leave_by leave) l.0) }
-        ensures lowered { IfOk result (λ l. IsLowered (view_of self.now.scope) held l.0 l.1) }
-        ensures entering { IfOk result (λ l. IsEntering (before_of held) l.0 l.1) }
-    {
-        match leave {
-            Leave::Break => {
-                if self.scope.loops == 0 {
-                    return Err(SyntaxFault::at(Wrong::NoLoop, offset));
-                }
-                let flow = Flow {
-                    breaks: Some(held),
-                    ..Flow::NOWHERE
-                };
-                Ok((Statement::Break, flow))
-            }
-            Leave::Return => Ok((Statement::Return, Flow::NOWHERE)),
-            Leave::Fail => Ok((Statement::Fail, Flow::NOWHERE.failing(held))),
-        }
-    }
-
-    /// A statement that declares nothing and uses no part. Its first word stands at the offset.
+    /// A plain statement, whose first word stands at the offset. Others are lowered where this is called.
     pub fn action(&self, action: &Action, offset: usize, held: Held) -> Result<Lowered, SyntaxFault>
         requires { IsAt (view_of self.now.scope) held }
-        ensures named { IfOk result (λ l. declares action.now ≡ false → uses action.now ≡ false → IsAction (names_of self.now.scope) action.now l.0) }
+        ensures named { IfOk result (λ l. is_plain action.now ≡ true → IsAction (names_of self.now.scope) action.now l.0) }
         ensures lowered { IfOk result (λ l. IsLowered (view_of self.now.scope) held l.0 l.1) }
         ensures entering { IfOk result (λ l. IsEntering (before_of held) l.0 l.1) }
     {
@@ -343,14 +309,15 @@ impl Lowering {
             } => self.assign(*name, *change, value, held),
             Action::Write(first, others) => self.writes(first, others, held),
             Action::Emit(values) => self.emit(values, held),
-            Action::Require(condition) => self.require(condition, held),
             Action::Descend { node, number } => self.descend(*node, number, offset, held),
             Action::Take { node, from } => self.take(*node, *from, held),
             Action::Free(name) => self.free(*name, held),
-            Action::Leave(leave) => self.leave(*leave, offset, held),
-            Action::Let { .. } | Action::Lock(_) | Action::Use { .. } => {
-                Ok((Statement::Skip, Flow::on(held)))
-            }
+            Action::Let { .. }
+            | Action::Lock(_)
+            | Action::Use { .. }
+            | Action::Require(_, _)
+            | Action::Leave(_)
+            | Action::Fail(_) => Ok((Statement::Skip, Flow::on(held))),
         }
     }
 

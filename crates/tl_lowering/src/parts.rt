@@ -2,6 +2,7 @@
 
 ghost use Rattle.std.specs.Prelude.{◌≡◌, ℕ, ◌+◌, ◌<◌, ◌≤◌, length, true, false, Some, slice_get, get_or, IfOk, OnOk};
 ghost use Rattle.tl_budget.specs.declared.limits.TheConstants.{MAX_DEPTH};
+ghost use Rattle.tl_lowering.specs.Failing.{readers_of};
 ghost use Rattle.tl_lowering.specs.Entering.{before_of, IsEntering};
 ghost use Rattle.tl_lowering.specs.Fit.{loops};
 ghost use Rattle.tl_lowering.specs.Giving.{IsNodeGiven, IsVariableGiven, IsValueGiven};
@@ -177,7 +178,8 @@ impl Lowering {
         ensures values { OnOk result (self.new.scope.values ≡ self.old.scope.values) }
         ensures nodes { OnOk result (self.new.scope.nodes ≡ self.old.scope.nodes) }
         ensures loops { OnOk result (self.new.scope.loops ≡ self.old.scope.loops) }
-        ensures named { OnOk result ((i n : ℕ) → get_or (view_of self.new.scope).meanings i Nothing ≡ Node n → get_or (view_of self.old.scope).meanings i Nothing ≡ Node n) }
+        ensures named { OnOk result ((i n : ℕ) → get_or (view_of self.new.scope).meanings i Nothing ≡ Node n
+            → get_or (view_of self.old.scope).meanings i Nothing ≡ Node n) }
     {
         let Form::Named(called) = &argument.form else {
             return Err(SyntaxFault::at(Wrong::NoValue, argument.offset));
@@ -206,7 +208,8 @@ impl Lowering {
         ensures values { OnOk result (self.new.scope.values ≡ self.old.scope.values + 1) }
         ensures nodes { OnOk result (self.new.scope.nodes ≡ self.old.scope.nodes) }
         ensures loops { OnOk result (self.new.scope.loops ≡ self.old.scope.loops) }
-        ensures named { OnOk result ((i n : ℕ) → get_or (view_of self.new.scope).meanings i Nothing ≡ Node n → get_or (view_of self.old.scope).meanings i Nothing ≡ Node n) }
+        ensures named { OnOk result ((i n : ℕ) → get_or (view_of self.new.scope).meanings i Nothing ≡ Node n
+            → get_or (view_of self.old.scope).meanings i Nothing ≡ Node n) }
     {
         self.scope.check_new(name)?;
         let register = self.scope.next_value(name.offset)?;
@@ -222,6 +225,7 @@ impl Lowering {
     fn given(
         &mut self,
         using: Using<'_>,
+        reader: Option<ValueRegister>,
         parameters: &[Parameter],
         arguments: &[parsed::Expression],
         named: Held,
@@ -232,7 +236,8 @@ impl Lowering {
         requires values { using.outer.now.values ≤ self.old.scope.values }
         requires nodes { using.outer.now.nodes ≡ self.old.scope.nodes }
         requires named { (i n : ℕ) → get_or (view_of self.old.scope).meanings i Nothing ≡ Node n → holds (nodes_of named) n ≡ true }
-        ensures given { IfOk result (λ l. IsGiven using.entry.before.now (names_of using.entry.outer.now) (names_of self.old.scope) parameters.now arguments.now using.entry.body.now l.0) }
+        ensures given { IfOk result (λ l. IsGiven using.entry.before.now (readers_of reader) (names_of using.entry.outer.now)
+            (names_of self.old.scope) parameters.now arguments.now using.entry.body.now l.0) }
         ensures lowered { IfOk result (λ l. IsLowered (view_of self.old.scope) held l.0 l.1) }
         ensures entering { IfOk result (λ l. IsEntering (before_of held) l.0 l.1) }
     {
@@ -240,7 +245,7 @@ impl Lowering {
             if !arguments.is_empty() {
                 return Err(SyntaxFault::at(Wrong::Arguments, using.offset));
             }
-            return self.block(using.before, using.body, held);
+            return self.block(using.before, reader, using.body, held);
         };
         let Some((argument, arguments)) = arguments.split_first() else {
             return Err(SyntaxFault::at(Wrong::Arguments, using.offset));
@@ -248,15 +253,15 @@ impl Lowering {
         match *parameter {
             Parameter::Node(name) => {
                 let named = self.give_node(using.outer, name, argument, named, held)?;
-                self.given(using, parameters, arguments, named, held)
+                self.given(using, reader, parameters, arguments, named, held)
             }
             Parameter::Variable(name) => {
                 self.give_variable(using.outer, name, argument, held)?;
-                self.given(using, parameters, arguments, named, held)
+                self.given(using, reader, parameters, arguments, named, held)
             }
             Parameter::Value(name) => {
                 let (register, number) = self.give_value(using.outer, name, argument, held)?;
-                let body = self.given(using, parameters, arguments, named, held)?;
+                let body = self.given(using, reader, parameters, arguments, named, held)?;
                 self.let_in(register, number, body, held)
             }
         }
@@ -267,13 +272,14 @@ impl Lowering {
     pub fn used(
         &mut self,
         before: &[Declaration],
+        reader: Option<ValueRegister>,
         name: Name,
         arguments: &[parsed::Expression],
         held: Held,
     ) -> Result<Lowered, SyntaxFault>
         requires { IsAt (view_of self.old.scope) held }
         ensures scope { OnOk result (view_of self.new.scope ≡ view_of self.old.scope) }
-        ensures named { IfOk result (λ l. IsUsed before.now (names_of self.old.scope) name arguments.now l.0) }
+        ensures named { IfOk result (λ l. IsUsed before.now (readers_of reader) (names_of self.old.scope) name arguments.now l.0) }
         ensures lowered { IfOk result (λ l. IsLowered (view_of self.old.scope) held l.0 l.1) }
         ensures entering { IfOk result (λ l. IsEntering (before_of held) l.0 l.1) }
     {
@@ -287,7 +293,14 @@ impl Lowering {
             body: &part.body,
             offset: name.offset,
         };
-        let lowered = self.given(using, &part.parameters, arguments, Held::NOTHING, held)?;
+        let lowered = self.given(
+            using,
+            reader,
+            &part.parameters,
+            arguments,
+            Held::NOTHING,
+            held,
+        )?;
         self.scope = outer;
         self.part_depth = self.part_depth.saturating_sub(1);
         self.check_nesting(&lowered.0, name.offset)?;

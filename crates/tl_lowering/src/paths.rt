@@ -216,8 +216,16 @@ impl Flow {
 
     /// This statement, and where control goes on the next one.
     pub fn then(self, next: Flow) -> Flow
-        ensures paths { paths_of result ≡ record { after = known next.after; fails = both_of (known self.fails) (known next.fails); breaks = both_of (known self.breaks) (known next.breaks) } }
-        ensures entered { entered_of result ≡ record { after = entered_at next.after; fails = or_of (entered_at self.fails) (entered_at next.fails); breaks = or_of (entered_at self.breaks) (entered_at next.breaks) } }
+        ensures paths { paths_of result ≡ record {
+          after = known next.after;
+          fails = both_of (known self.fails) (known next.fails);
+          breaks = both_of (known self.breaks) (known next.breaks);
+        } }
+        ensures entered { entered_of result ≡ record {
+          after = entered_at next.after;
+          fails = or_of (entered_at self.fails) (entered_at next.fails);
+          breaks = or_of (entered_at self.breaks) (entered_at next.breaks);
+        } }
     {
         Flow {
             after: next.after,
@@ -264,7 +272,11 @@ impl Flow {
     /// The statement, and the handler of its failure.
     pub fn handled_by(self, handler: Flow) -> Flow
         ensures paths { paths_of result ≡ with_handler (paths_of self) (paths_of handler) }
-        ensures entered { entered_of result ≡ record { after = or_of (entered_at self.after) (entered_at handler.after); fails = entered_at handler.fails; breaks = or_of (entered_at self.breaks) (entered_at handler.breaks) } }
+        ensures entered { entered_of result ≡ record {
+          after = or_of (entered_at self.after) (entered_at handler.after);
+          fails = entered_at handler.fails;
+          breaks = or_of (entered_at self.breaks) (entered_at handler.breaks);
+        } }
     {
         Flow {
             after: join(self.after, handler.after),

@@ -1,13 +1,15 @@
 // From a text to the core forms of its procedures.
 
-ghost use Rattle.std.specs.Prelude.{◌≡◌, [], ◌≤◌, length, None, pos, IfSome, IfOk, OnOk};
+ghost use Rattle.std.specs.Prelude.{◌≡◌, [], ◌≤◌, length, None, pos, true, IfSome, IfOk, OnOk};
 ghost use Rattle.std.specs.List.{All};
+ghost use Rattle.tl_lowering.specs.Atomic.{IsAtomic};
 ghost use Rattle.tl_lowering.specs.declared.program.Procedure.{Procedure as CoreProcedure};
+ghost use Rattle.tl_lowering.specs.declared.program.Statement.TheVariants.{Skip};
 ghost use Rattle.tl_lowering.specs.Fit.{IsWord};
 ghost use Rattle.tl_lowering.specs.Names.{names_of, index_of, with_procedure, with_values, AreNew};
 ghost use Rattle.tl_lowering.specs.Outcomes.{fails};
 ghost use Rattle.tl_lowering.specs.Passing.{nothing_before, EntersOnce};
-ghost use Rattle.tl_lowering.specs.Reading.{IsBody, IsProcedure, IsWithField, AreDeclared, IsProgram};
+ghost use Rattle.tl_lowering.specs.Reading.{IsTried, IsBody, IsProcedure, IsWithField, AreDeclared, IsProgram};
 ghost use Rattle.tl_lowering.specs.Scopes.{view_of, IsInUse, IsAt, IsBare, Extends, is_in_loop};
 ghost use Rattle.tl_lowering.specs.Sets.{none_held};
 ghost use Rattle.tl_lowering.specs.Sound.{IsWellFormed, IsInOrder};
@@ -75,6 +77,19 @@ impl Lowering {
         Ok(())
     }
 
+    // A failure that the procedure's `else` doesn't handle ends the procedure. 299 if a write may stand before it in an atomic one.
+    fn completed(
+        &self,
+        procedure: &parsed::Procedure,
+        handled: Statement,
+    ) -> Result<Statement, SyntaxFault>
+        ensures named { IfOk result (IsTried handled Skip) }
+        ensures atomic { OnOk result (procedure.now.is_atomic ≡ true → IsAtomic handled) }
+    {
+        check_atomic(procedure.is_atomic, &handled, procedure.name.offset)?;
+        self.attempt(handled, Statement::Skip)
+    }
+
     // The body of a procedure. An absent `else` is an empty block.
     fn body(
         &mut self,
@@ -88,12 +103,30 @@ impl Lowering {
         ensures handled { IfOk result (λ s. fails s none_held ≡ []) }
         ensures enters { IfOk result (λ s. EntersOnce s nothing_before) }
     {
-        let lowered = self.block(before, &procedure.body, Held::NOTHING)?;
+        let Some(why) = procedure.why else {
+            let lowered = self.block(before, None, &procedure.body, Held::NOTHING)?;
+            check_atomic(procedure.is_atomic, &lowered.0, procedure.name.offset)?;
+            let (handled, _flow) = self.handled(
+                before,
+                None,
+                lowered,
+                &procedure.otherwise,
+                Held::NOTHING,
+            )?;
+            return self.completed(procedure, handled);
+        };
+        let (register, lowered) = self.told(before, why, &procedure.body, Held::NOTHING)?;
         check_atomic(procedure.is_atomic, &lowered.0, procedure.name.offset)?;
-        let (handled, _flow) = self.handled(before, lowered, &procedure.otherwise, Held::NOTHING)?;
-        check_atomic(procedure.is_atomic, &handled, procedure.name.offset)?;
-        let handled = self.boxed(handled)?;
-        Ok(Statement::Try(handled, self.boxed(Statement::Skip)?))
+        let named = (why, register);
+        let (handled, _flow) = self.heard(
+            before,
+            None,
+            named,
+            lowered,
+            &procedure.otherwise,
+            Held::NOTHING,
+        )?;
+        self.completed(procedure, handled)
     }
 
     fn procedure(
@@ -104,7 +137,8 @@ impl Lowering {
     ) -> Result<Procedure, SyntaxFault>
         requires { IsBare (view_of self.old.scope) }
         ensures fresh { OnOk result (index_of (names_of self.old.scope) procedure.now.name ≡ None) }
-        ensures named { IfOk result (IsProcedure (spellings names.now.keys) before.now (with_procedure (names_of self.old.scope) procedure.now.name (length before.now)) procedure.now) }
+        ensures named { IfOk result (IsProcedure (spellings names.now.keys) before.now (with_procedure (names_of self.old.scope) procedure.now.name
+            (length before.now)) procedure.now) }
         ensures names { OnOk result (names_of self.new.scope ≡ with_procedure (names_of self.old.scope) procedure.now.name (length before.now)) }
         ensures scope { OnOk result (IsBare (view_of self.new.scope)) }
         ensures procedure { IfOk result (λ p. IsWord p.name.items → IsInOrder p) }

@@ -233,7 +233,8 @@ impl Scope {
         ensures fields { OnOk result (self.new.fields.items ≡ self.old.fields.items) }
         ensures procedures { OnOk result (self.new.procedures.items ≡ self.old.procedures.items) }
         ensures loops { OnOk result (self.new.loops ≡ self.old.loops) }
-        ensures names { OnOk result ((outer : View) → meaning_of (view_of self.old) name.symbol ≡ Nothing → Extends outer (view_of self.old) → Extends outer (view_of self.new)) }
+        ensures names { OnOk result ((outer : View) → meaning_of (view_of self.old) name.symbol ≡ Nothing → Extends outer (view_of self.old)
+            → Extends outer (view_of self.new)) }
         ensures named { OnOk result (names_of self.new ≡ with_value (names_of self.old) name) }
     {
         self.local.push(name.symbol)?;
@@ -253,7 +254,8 @@ impl Scope {
         ensures values { OnOk result (self.new.values ≡ self.old.values + 1) }
         ensures nodes { OnOk result (self.new.nodes ≡ self.old.nodes) }
         ensures loops { OnOk result (self.new.loops ≡ self.old.loops) }
-        ensures names { OnOk result ((outer : View) → IfSome name (λ n. meaning_of (view_of self.old) n.symbol ≡ Nothing) → Extends outer (view_of self.old) → Extends outer (view_of self.new)) }
+        ensures names { OnOk result ((outer : View) → IfSome name (λ n. meaning_of (view_of self.old) n.symbol ≡ Nothing) → Extends outer (view_of self.old)
+            → Extends outer (view_of self.new)) }
         ensures named { OnOk result (names_of self.new ≡ with_index (names_of self.old) name) }
     {
         let Some(name) = name else {
@@ -292,7 +294,8 @@ impl Scope {
         ensures fields { OnOk result (self.new.fields.items ≡ self.old.fields.items) }
         ensures procedures { OnOk result (self.new.procedures.items ≡ self.old.procedures.items) }
         ensures loops { OnOk result (self.new.loops ≡ self.old.loops) }
-        ensures names { OnOk result ((outer : View) → meaning_of (view_of self.old) name.symbol ≡ Nothing → Extends outer (view_of self.old) → Extends outer (view_of self.new)) }
+        ensures names { OnOk result ((outer : View) → meaning_of (view_of self.old) name.symbol ≡ Nothing → Extends outer (view_of self.old)
+            → Extends outer (view_of self.new)) }
         ensures named { OnOk result (names_of self.new ≡ with_node (names_of self.old) name) }
     {
         self.local.push(name.symbol)?;

@@ -147,7 +147,8 @@ pub fn negated(alloc: Global, condition: Condition) -> Result<Condition, SyntaxF
 
 fn both(alloc: Global, first: Condition, second: Condition) -> Result<Condition, SyntaxFault>
     ensures named { IfOk result (IsBoth first second) }
-    ensures testable { (values : ℕ) (held : Nodes) → IsTestable values held first → IsTestable values held second → IfOk result (λ c. IsTestable values held c) }
+    ensures testable { (values : ℕ) (held : Nodes) → IsTestable values held first → IsTestable values held second
+        → IfOk result (λ c. IsTestable values held c) }
 {
     let first = Box::new(alloc, first)?;
     let second = Box::new(alloc, second)?;

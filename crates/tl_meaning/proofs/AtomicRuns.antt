@@ -27,8 +27,9 @@ use Rattle.std.specs.declared.alloc.Global.{Global}
 use Rattle.tl_lowering.specs.Atomic.{or_of, on as on_path, failing_if, either, then_by, in_turns, behind_turns, written, body_written, IsAtomic}
 use Rattle.tl_lowering.specs.Fit.{AllTurn}
 use Rattle.tl_lowering.specs.Names.{Names}
+use Rattle.tl_syntax.specs.declared.parsed.Name.{Name}
 use Rattle.tl_lowering.specs.Outcomes.{may_fail, condition_may_fail, locked, unlocked, nodes_behind, here_if, next, going_on, handled_by, behind_loop, after, fails, breaks}
-use Rattle.tl_lowering.specs.Reading.{IsTried, tried, IsBody}
+use Rattle.tl_lowering.specs.Reading.{IsTried, tried, IsCaught, unnamed, named, IsBody}
 use Rattle.tl_lowering.specs.Sets.{Nodes, none_held, holds, with_node as also, without_node, both_of, all_of}
 use Rattle.tl_lowering.specs.Walks.{leaves_alone, is_walk}
 use Rattle.tl_lowering.specs.Sound.{IsReadable, KeepsHeld, IsWellFormed}
@@ -767,7 +768,9 @@ pub atomic_writes_nothing : {before : List Declaration} {names : Names} {text : 
 atomic_writes_nothing {text = text} read marked arity parents args t sound turn =
     by read.handled_is read.whole_is sound turn (read.atomic marked) (read.atomic_else marked)
   where
-    by : {body handler handled whole : Statement} → IsTried body handler handled → IsTried handled S.Skip whole → IsWellFormed whole arity 0 none_held false → AllTurn whole → IsAtomic body → IsAtomic handled
-        → WritesNothing parents body args t × WritesNothing parents handled args t
-    by {body} {handler} (tried {p = p} {q = q}) tried sound turn atomic atomic_else =
+    by : {names : Names} {why : Option Name} {body handler handled whole : Statement} → IsCaught names body handler why handled → IsTried handled S.Skip whole → IsWellFormed whole arity 0 none_held false → AllTurn whole → IsAtomic body
+        → IsAtomic handled → WritesNothing parents body args t × WritesNothing parents handled args t
+    by {body = body} {handler = handler} (unnamed (tried {p = p} {q = q})) tried sound turn atomic atomic_else =
         (nothing_written parents body arity args t sound.0.0 turn.0.0 atomic, nothing_written parents (S.Try' p body q handler) arity args t sound.0 turn.0 atomic_else)
+    by {body = body} {handled = handled} (named tried) tried sound turn atomic atomic_else =
+        (nothing_written parents body (arity + 1) args t sound.0.2.0 turn.0.0 atomic, nothing_written parents handled arity args t sound.0 turn.0 atomic_else)

@@ -1,5 +1,5 @@
 -- Tokens denote only one statement without blocks, only one question and only one count.
-use Rattle.std.proofs.Common.{◌≡◌, ℕ, List, [], ◌∷◌, ◌++◌, refl, sym, ap, subst, ◌∙◌, arith}
+use Rattle.std.proofs.Common.{◌≡◌, ℕ, List, [], ◌∷◌, ◌++◌, Option, refl, sym, ap, subst, ◌∙◌, arith}
 use Rattle.std.proofs.Math.Path.{subst₂}
 use Rattle.tl_syntax.specs.declared.token.Token.{Token}
 use Rattle.tl_syntax.specs.declared.token.TokenKind.{TokenKind}
@@ -21,9 +21,9 @@ use Rattle.tl_syntax.specs.declared.parsed.Question.{Question}
 use Rattle.tl_syntax.specs.Grammar as G
 use Rattle.tl_syntax.specs.Grammar.{kind_at, offset_at, Stands, IsName, Disjunction, Rule, IsPlain, IsExpression, IsChain}
 use Rattle.tl_syntax.specs.Statements as R
-use Rattle.tl_syntax.specs.Statements.{word_to, IsLeave, IsChange, IsArgument, IsChild, IsPlace, AreExpressions, IsWrite, AreMoreWrites, AreGiven, IsAction, IsQuestion}
+use Rattle.tl_syntax.specs.Statements.{word_to, IsLeave, IsChange, IsArgument, IsChild, IsPlace, AreExpressions, IsWrite, AreMoreWrites, AreGiven, IsCode, IsReason, IsAction, IsQuestion}
 use Rattle.tl_syntax.specs.Alike as A
-use Rattle.tl_syntax.specs.Alike.{Alike, AlikeForm, AreAlike, AlikeChild, AlikePlace, AlikeWrite, AlikeWrites, AlikeAction, AlikeQuestion}
+use Rattle.tl_syntax.specs.Alike.{Alike, AlikeForm, AreAlike, AlikeChild, AlikePlace, AlikeWrite, AlikeWrites, AlikeReason, AlikeAction, AlikeQuestion}
 use Rattle.tl_syntax.proofs.ListsOnce.{Rest, done, step, append, Compared, within, another_compared, list_end}
 use Rattle.tl_syntax.proofs.ExpressionsOnce.{both_kinds, same_end, differ, same_name, same_number, binding, CanFollow, once}
 
@@ -161,6 +161,10 @@ child_once {tokens} {m = m} {k = end} {c = c} {d = d} (R.child {j = a1} {k = a2}
 abbrev pub comma : TokenKind → ℕ
 comma K.Comma = 1
 comma kind = 0
+
+abbrev pub colon : TokenKind → ℕ
+colon K.Colon = 1
+colon kind = 0
 
 -- the token is no comma
 pub record NoComma (tokens : List Token) (i : ℕ) : Type 0 where
@@ -353,9 +357,36 @@ writes_once {tokens} {j = j} {k = k} {vs = vs} {ws = ws} h a c g b d =
 pub record Ends (tokens : List Token) (i : ℕ) : Type 0 where
   pub follows : Follows tokens i
   pub no_comma : NoComma tokens i
+  pub no_colon : colon (kind_at tokens i) ≡ 0
+  pub no_more : begins (kind_at tokens i) ≡ 0
 
-pub ends_here : {tokens : List Token} {i : ℕ} {kind : TokenKind} → kind_at tokens i ≡ kind → binding kind ≡ 0 → comma kind ≡ 0 → Ends tokens i
-ends_here e z c = record { follows = ends e z; no_comma = record { is = ap comma e ∙ c } }
+pub ends_here : {tokens : List Token} {i : ℕ} {kind : TokenKind} → kind_at tokens i ≡ kind → binding kind ≡ 0 → comma kind ≡ 0 → colon kind ≡ 0 → begins kind ≡ 0 → Ends tokens i
+ends_here e z c d b = record { follows = ends e z; no_comma = record { is = ap comma e ∙ c }; no_colon = ap colon e ∙ d; no_more = ap begins e ∙ b }
+
+-- ---- codes
+
+code_once : {tokens : List Token} {n m i j k : ℕ} {e f : Expression} → IsCode tokens n i j e → Follows tokens j → IsCode tokens m i k f → Follows tokens k → (j ≡ k) × Alike e f
+code_once {m = m} {k = end} (R.code h x) a (R.code {e = e2} h2 y) b = once h a m end e2 h2 b
+
+-- no code stands where an action ends
+no_code : {A : Type 0} {tokens : List Token} {n j k l : ℕ} {e : Expression} → IsCode tokens n j k e → l ≡ j → Ends tokens l → A
+no_code {tokens = tokens} (R.code h x) same f = absurd (omega (arith, expression_begins h, at (λ z. begins (kind_at tokens z) ≡ 0) (sym same) f.no_more))
+
+reason_follows : {tokens : List Token} {n i j : ℕ} {why : Option Expression} → IsReason tokens n i j why → Follows tokens j → Follows tokens i
+reason_follows R.no_reason f = f
+reason_follows (R.reason s c) f = ends s.kind_is refl
+
+some_colon : {A : Type 0} {tokens : List Token} {i j : ℕ} → Stands tokens K.Colon i j → Ends tokens i → A
+some_colon s f = absurd (omega (arith, ap colon s.kind_is, f.no_colon))
+
+reason_once : {tokens : List Token} {n m i j k : ℕ} {x y : Option Expression} → IsReason tokens n i j x → Ends tokens j → IsReason tokens m i k y → Ends tokens k → (j ≡ k) × AlikeReason x y
+reason_once R.no_reason f R.no_reason g = (refl, A.no_reason)
+reason_once R.no_reason f (R.reason s c) g = some_colon s f
+reason_once (R.reason s c) f R.no_reason g = some_colon s g
+reason_once {tokens} {m = m} {k = end} (R.reason {j = a1} s c) f (R.reason {e = e2} t d) g =
+    let d' : IsCode tokens m a1 end e2 = at (λ z. IsCode tokens m z end e2) (same_end s t) d in
+    let same = code_once c f.follows d' g.follows in
+    (same.0, A.reason same.1)
 
 -- the tokens that begin an action
 abbrev pub heading : TokenKind → ℕ
@@ -376,12 +407,13 @@ head (V.Let n e) = 1
 head (V.Assign n c e) = 2
 head (V.Write w others) = 2
 head (V.Emit es) = 3
-head (V.Require e) = 4
+head (V.Require e why) = 4
 head (V.Lock p) = 5
 head (V.Descend n e) = 6
 head (V.Take n m) = 6
 head (V.Free n) = 7
 head (V.Leave l) = 8
+head (V.Fail e) = 8
 head (V.Use n es) = 2
 
 leave_heading : (tokens : List Token) (l : Leave) (i j : ℕ) → IsLeave tokens i j l → heading (kind_at tokens i) ≡ 8
@@ -394,12 +426,13 @@ action_is (R.lets s n t e) = ap heading s.kind_is
 action_is (R.assigns n c e) = ap heading n.stands.kind_is
 action_is (R.writes (R.write n d f c e) others) = ap heading n.stands.kind_is
 action_is (R.emits s es) = ap heading s.kind_is
-action_is (R.requires s e) = ap heading s.kind_is
+action_is (R.requires s e r) = ap heading s.kind_is
 action_is (R.locks s p) = ap heading s.kind_is
 action_is (R.descends s n t c a) = ap heading s.kind_is
 action_is (R.takes s n t m) = ap heading s.kind_is
 action_is (R.frees s n) = ap heading s.kind_is
 action_is {tokens} (R.leaves {i = i} {j = j} {l = l} x) = leave_heading tokens l i j x
+action_is (R.fails_with s c) = ap heading s.kind_is
 action_is (R.uses n w s g) = ap heading n.stands.kind_is
 
 pub action_once : {tokens : List Token} {n m i j k : ℕ} {a b : Action} → IsAction tokens n i j a → Ends tokens j → IsAction tokens m i k b → Ends tokens k → (j ≡ k) × AlikeAction a b
@@ -430,10 +463,12 @@ action_once {tokens} {m = m} {k = end} (R.emits {j = a1} s h) f (R.emits {es = f
     let h2' : AreExpressions tokens m a1 end fs.items = at (λ z. AreExpressions tokens m z end fs.items) (same_end s s2) h2 in
     let same = expressions_once h f.follows f.no_comma h2' g.follows g.no_comma in
     (same.0, A.emits same.1)
-action_once {tokens} {m = m} {k = end} (R.requires {j = a1} s h) f (R.requires {e = e2} s2 h2) g =
-    let h2' : IsExpression tokens m Disjunction a1 end e2 = at (λ z. IsExpression tokens m Disjunction z end e2) (same_end s s2) h2 in
-    let same = once h f.follows m end e2 h2' g.follows in
-    (same.0, A.requires same.1)
+action_once {tokens} {m = m} {k = end} (R.requires {j = a1} {k = a2} s h r) f (R.requires {k = b2} {e = e2} {why = why2} s2 h2 r2) g =
+    let h2' : IsExpression tokens m Disjunction a1 b2 e2 = at (λ z. IsExpression tokens m Disjunction z b2 e2) (same_end s s2) h2 in
+    let same = once h (reason_follows r f.follows) m b2 e2 h2' (reason_follows r2 g.follows) in
+    let r2' : IsReason tokens m a2 end why2 = at (λ z. IsReason tokens m z end why2) same.0 r2 in
+    let why = reason_once r f r2' g in
+    (why.0, A.requires same.1 why.1)
 action_once {tokens} {m = m} {k = end} (R.locks {j = a1} s h) f (R.locks {p = q} s2 h2) g =
     let h2' : IsPlace tokens m a1 end q = at (λ z. IsPlace tokens m z end q) (same_end s s2) h2 in
     let same = place_once h f.no_comma h2' g.no_comma in
@@ -466,6 +501,12 @@ action_once {tokens} {k = end} (R.frees {j = a1} {n = x} s n) f (R.frees {n = y}
 action_once {tokens} {i = i} {j = j} {k = end} (R.leaves {l = l} x) f (R.leaves {l = r} y) g =
     let same = same_leave tokens l r i j end x y in
     (same.0, subst (λ z. AlikeAction (V.Leave l) (V.Leave z)) same.1 A.same_action)
+action_once {tokens} {m = m} {k = end} (R.fails_with {j = a1} s c) f (R.fails_with {e = e2} s2 c2) g =
+    let c2' : IsCode tokens m a1 end e2 = at (λ z. IsCode tokens m z end e2) (same_end s s2) c2 in
+    let same = code_once c f.follows c2' g.follows in
+    (same.0, A.fails_with same.1)
+action_once {tokens} {i = i} {k = end} (R.fails_with s c) f (R.leaves {l = l} y) g = no_code c (same_end (leave_stands tokens l i end y) s) g
+action_once {tokens} {i = i} {j = j} (R.leaves {l = l} x) f (R.fails_with s c) g = no_code c (same_end (leave_stands tokens l i j x) s) f
 action_once {tokens} {m = m} {k = end} (R.uses {j = a1} {k = a2} {n = x} {es = es} n w s h) f (R.uses {k = b2} {n = y} {es = fs} n2 w2 s2 h2) g =
     let s2' : Stands tokens K.LeftParenthesis a1 b2 = at (λ z. Stands tokens K.LeftParenthesis z b2) (same_end n.stands n2.stands) s2 in
     let h2' : AreGiven tokens m a2 end fs.items = at (λ z. AreGiven tokens m z end fs.items) (same_end s s2') h2 in

@@ -24,7 +24,7 @@ use Rattle.tl_syntax.specs.declared.parsed.Part.{Part}
 use Rattle.tl_syntax.specs.declared.parsed.Declaration.{Declaration}
 use Rattle.tl_syntax.specs.declared.parsed.Declaration.TheVariants as D
 use Rattle.tl_syntax.specs.Alike as A
-use Rattle.tl_syntax.specs.Alike.{Alike, AlikeForm, AreAlike, AlikeChild, AlikePlace, AlikeWrite, AlikeWrites, AlikeAction, AlikeQuestion, AlikeStatements, AlikeStatement, AlikeStatementForm, AlikeOtherwise, AlikeProcedure, AlikePart, AlikeDeclaration, AlikeDeclarations}
+use Rattle.tl_syntax.specs.Alike.{Alike, AlikeForm, AreAlike, AlikeChild, AlikePlace, AlikeWrite, AlikeWrites, AlikeReason, AlikeAction, AlikeQuestion, AlikeStatements, AlikeStatement, AlikeStatementForm, AlikeOtherwise, AlikeProcedure, AlikePart, AlikeDeclaration, AlikeDeclarations}
 use Rattle.tl_syntax.proofs.AlikeForms.{form_of}
 
 -- ---- itself
@@ -52,13 +52,14 @@ action_rank (V.Let name e) = 0
 action_rank (V.Assign name change e) = 1
 action_rank (V.Write w others) = 2
 action_rank (V.Emit es) = 3
-action_rank (V.Require e) = 4
+action_rank (V.Require e why) = 4
 action_rank (V.Lock place) = 5
 action_rank (V.Descend node e) = 6
 action_rank (V.Take node from) = 7
 action_rank (V.Free node) = 8
 action_rank (V.Leave l) = 9
 action_rank (V.Use n es) = 10
+action_rank (V.Fail e) = 11
 
 pub same_action_rank : {a b : Action} → AlikeAction a b → action_rank a ≡ action_rank b
 same_action_rank A.same_action = refl
@@ -66,9 +67,10 @@ same_action_rank (A.lets x) = refl
 same_action_rank (A.assigns x) = refl
 same_action_rank (A.writes x y) = refl
 same_action_rank (A.emits x) = refl
-same_action_rank (A.requires x) = refl
+same_action_rank (A.requires x y) = refl
 same_action_rank (A.locks x) = refl
 same_action_rank (A.descends x) = refl
+same_action_rank (A.fails_with x) = refl
 same_action_rank (A.uses x) = refl
 
 pub let_of : {n m : Name} {e f : Expression} → AlikeAction (V.Let n e) (V.Let m f) → (n ≡ m) × AlikeForm e.form f.form
@@ -90,9 +92,17 @@ pub write_of : {v w : Write} {vs ws : Vec Write Global} → AlikeAction (V.Write
 write_of {v} {vs = vs} A.same_action = (write_itself v, writes_itself vs.items)
 write_of (A.writes x y) = (x, y)
 
-pub require_of : {e f : Expression} → AlikeAction (V.Require e) (V.Require f) → AlikeForm e.form f.form
-require_of A.same_action = A.same_form
-require_of (A.requires x) = form_of x
+reason_itself : (why : Option Expression) → AlikeReason why why
+reason_itself None = A.no_reason
+reason_itself (Some e) = A.reason (alike_itself e)
+
+pub require_of : {e f : Expression} {x y : Option Expression} → AlikeAction (V.Require e x) (V.Require f y) → AlikeForm e.form f.form × AlikeReason x y
+require_of {x = x} A.same_action = (A.same_form, reason_itself x)
+require_of (A.requires x y) = (form_of x, y)
+
+pub fail_of : {e f : Expression} → AlikeAction (V.Fail e) (V.Fail f) → AlikeForm e.form f.form
+fail_of A.same_action = A.same_form
+fail_of (A.fails_with x) = form_of x
 
 pub lock_of : {p q : Place} → AlikeAction (V.Lock p) (V.Lock q) → AlikePlace p q
 lock_of {p} A.same_action = place_itself p
@@ -134,8 +144,8 @@ use_of (A.uses x) = (refl, x)
 opened_act : (a : Action) (o : Option Otherwise) → out-StatementForm (S.Act a o) ≡ Y.Act a o
 opened_act a o = search the_lemmas
 
-opened_try : (xs ys : Vec Statement Global) → out-StatementForm (S.Try xs ys) ≡ Y.Try xs ys
-opened_try xs ys = search the_lemmas
+opened_try : (why : Option Name) (xs ys : Vec Statement Global) → out-StatementForm (S.Try why xs ys) ≡ Y.Try why xs ys
+opened_try why xs ys = search the_lemmas
 
 opened_if : (q : Question) (xs ys : Vec Statement Global) → out-StatementForm (S.If q xs ys) ≡ Y.If q xs ys
 opened_if q xs ys = search the_lemmas
@@ -162,8 +172,8 @@ same_with {o = o} {p = p} e = let same = (same_act (Some o) (Some p) e).1 in ((s
 only_or_with : {a b : Action} {o : Otherwise} → S.Act a None ≡ S.Act b (Some o) → ⊥
 only_or_with {o = o} e = let no = (same_act None (Some o) e).1 in cc
 
-same_try : {xs ys vs ws : Vec Statement Global} → S.Try xs ys ≡ S.Try vs ws → (xs ≡ vs) × (ys ≡ ws)
-same_try {xs} {ys} {vs} {ws} e = let same = sym (opened_try xs ys) ∙ ap out-StatementForm e ∙ opened_try vs ws in (cc, cc)
+same_try : {x y : Option Name} {xs ys vs ws : Vec Statement Global} → S.Try x xs ys ≡ S.Try y vs ws → (x ≡ y) × (xs ≡ vs) × (ys ≡ ws)
+same_try {x} {y} {xs} {ys} {vs} {ws} e = let same = sym (opened_try x xs ys) ∙ ap out-StatementForm e ∙ opened_try y vs ws in (cc, cc, cc)
 
 same_if : {q r : Question} {xs ys vs ws : Vec Statement Global} → S.If q xs ys ≡ S.If r vs ws → (q ≡ r) × (xs ≡ vs) × (ys ≡ ws)
 same_if {q} {r} {xs} {ys} {vs} {ws} e = let same = sym (opened_if q xs ys) ∙ ap out-StatementForm e ∙ opened_if r vs ws in (cc, cc, cc)
@@ -185,7 +195,7 @@ same_block {xs} {vs} e = let same = sym (opened_block xs) ∙ ap out-StatementFo
 -- the number of the form's variant
 abbrev pub statement_rank : StatementForm → ℕ
 statement_rank (S.Act' a o) = 0
-statement_rank (S.Try' p xs q ys) = 1
+statement_rank (S.Try' why p xs q ys) = 1
 statement_rank (S.If' r p xs q ys) = 2
 statement_rank (S.Repeat' e most p xs) = 3
 statement_rank (S.ForEach' c i d e p xs) = 4
@@ -235,9 +245,9 @@ act_else_of {a = a} {o = o} (A.act_else {a = c} {b = d} {o = q} {p = r} x h) e f
     )
 act_else_of x e f = cc
 
-pub try_of : {f g : StatementForm} (xs ys vs ws : Vec Statement Global) → AlikeStatementForm f g → f ≡ S.Try xs ys → g ≡ S.Try vs ws →
-    AlikeStatements xs.items vs.items × AlikeStatements ys.items ws.items
-try_of xs ys vs ws (A.try a b c d x y) e f = (blocks_of (same_try e).0 (same_try f).0 x, blocks_of (same_try e).1 (same_try f).1 y)
+pub try_of : {f g : StatementForm} {n m : Option Name} (xs ys vs ws : Vec Statement Global) → AlikeStatementForm f g → f ≡ S.Try n xs ys → g ≡ S.Try m vs ws →
+    (n ≡ m) × AlikeStatements xs.items vs.items × AlikeStatements ys.items ws.items
+try_of xs ys vs ws (A.try a b c d x y) e f = (sym (same_try e).0 ∙ (same_try f).0, blocks_of (same_try e).1 (same_try f).1 x, blocks_of (same_try e).2 (same_try f).2 y)
 try_of xs ys vs ws x e f = cc
 
 pub if_of : {f g : StatementForm} {q r : Question} (xs ys vs ws : Vec Statement Global) → AlikeStatementForm f g → f ≡ S.If q xs ys → g ≡ S.If r vs ws →

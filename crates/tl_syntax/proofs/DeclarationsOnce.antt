@@ -14,7 +14,7 @@ use Rattle.tl_syntax.specs.declared.parsed.Declaration.{Declaration}
 use Rattle.tl_syntax.specs.declared.parsed.Declaration.TheVariants as V
 use Rattle.tl_syntax.specs.declared.parser.TheConstants.{MAX_LEVELS}
 use Rattle.tl_syntax.specs.Grammar.{kind_at, Stands, IsName, IsExpression, Disjunction}
-use Rattle.tl_syntax.specs.Statements.{IsBlock}
+use Rattle.tl_syntax.specs.Statements.{IsBlock, IsOptionalName}
 use Rattle.tl_syntax.specs.Declarations as D
 use Rattle.tl_syntax.specs.Declarations.{AreNames, AreArguments, IsMark, IsProcedure, names_something, IsParameter, AreParameters, AreTaken, IsPart, IsDeclaration, AreDeclarations, IsFile}
 use Rattle.tl_syntax.specs.Alike as A
@@ -22,7 +22,7 @@ use Rattle.tl_syntax.specs.Alike.{AlikeStatements, AlikeProcedure, AlikePart, Al
 use Rattle.tl_syntax.proofs.ListsOnce.{Rest, done, append, Compared, within, another_compared, list_end}
 use Rattle.tl_syntax.proofs.ExpressionsOnce.{same_end, differ, same_name, once}
 use Rattle.tl_syntax.proofs.ActionsOnce.{at, ends, NoComma, some_comma, comma}
-use Rattle.tl_syntax.proofs.StatementsOnce.{NoElse, some_else, no_else, block_once}
+use Rattle.tl_syntax.proofs.StatementsOnce.{NoElse, some_else, no_else, parting as brace, optional_once, block_starts, block_once}
 
 -- ---- names
 
@@ -138,25 +138,27 @@ head_once tokens i j k p q x y =
     record { ends = alike.0; marked = marked.1; named = same_name x.named named; arguments = same.1; body = alike.1 }
 
 procedure_once : {tokens : List Token} {i j k : ℕ} {p q : Procedure} → IsProcedure tokens i j p → NoElse tokens j → IsProcedure tokens i k q → NoElse tokens k → (j ≡ k) × AlikeProcedure p q
-procedure_once {tokens} {i} {j} {k} {p} {q} (D.procedure {i = a0} {j = a1} {k = a2} {l = a3} {m = a4} r s n t a b none) f (D.procedure {i = b0} {j = b1} {k = b2} {l = b3} {m = b4} r2 s2 n2 t2 x2 y2 none2) g =
+procedure_once {tokens} {i} {j} {k} {p} {q} (D.procedure {i = a0} {j = a1} {k = a2} {l = a3} {m = a4} r s n t a b w none) f (D.procedure {i = b0} {j = b1} {k = b2} {l = b3} {m = b4} r2 s2 n2 t2 x2 y2 w2 none2) g =
     let h = head_once tokens i j k p q (record { i = a0; a = a1; b = a2; c = a3; d = a4; marked = r; begins = s; named = n; opens = t; arguments = a; body = b })
     (record { i = b0; a = b1; b = b2; c = b3; d = b4; marked = r2; begins = s2; named = n2; opens = t2; arguments = x2; body = y2 }) in
-    (h.ends, record { mark = h.marked; name = h.named; arguments = h.arguments; body = h.body; otherwise = subst₂ AlikeStatements (sym none) (sym none2) A.no_statements })
-procedure_once {tokens} {i} {j} {k} {p} {q} (D.procedure {i = a0} {j = a1} {k = a2} {l = a3} {m = a4} r s n t a b none) f (D.procedure_else {i = b0} {j = b1} {k = b2} {l = b3} {m = b4} {n = b5} r2 s2 n2 t2 x2 y2 u2 c2) g =
+    (h.ends, record { mark = h.marked; name = h.named; arguments = h.arguments; body = h.body; why = w ∙ sym w2; otherwise = subst₂ AlikeStatements (sym none) (sym none2) A.no_statements })
+procedure_once {tokens} {i} {j} {k} {p} {q} (D.procedure {i = a0} {j = a1} {k = a2} {l = a3} {m = a4} r s n t a b w none) f (D.procedure_else {i = b0} {j = b1} {k = b2} {l = b3} {m = b4} {n = b5} r2 s2 n2 t2 x2 y2 u2 w2 c2) g =
     let h = head_once tokens i j b5 p q (record { i = a0; a = a1; b = a2; c = a3; d = a4; marked = r; begins = s; named = n; opens = t; arguments = a; body = b })
     (record { i = b0; a = b1; b = b2; c = b3; d = b4; marked = r2; begins = s2; named = n2; opens = t2; arguments = x2; body = y2 }) in
     some_else u2 (subst (λ z. NoElse tokens z) h.ends f)
-procedure_once {tokens} {i} {j} {k} {p} {q} (D.procedure_else {i = a0} {j = a1} {k = a2} {l = a3} {m = a4} {n = a5} r s n t a b u c) f (D.procedure {i = b0} {j = b1} {k = b2} {l = b3} {m = b4} r2 s2 n2 t2 x2 y2 none2) g =
+procedure_once {tokens} {i} {j} {k} {p} {q} (D.procedure_else {i = a0} {j = a1} {k = a2} {l = a3} {m = a4} {n = a5} r s n t a b u w c) f (D.procedure {i = b0} {j = b1} {k = b2} {l = b3} {m = b4} r2 s2 n2 t2 x2 y2 w2 none2) g =
     let h = head_once tokens i a5 k p q (record { i = a0; a = a1; b = a2; c = a3; d = a4; marked = r; begins = s; named = n; opens = t; arguments = a; body = b })
     (record { i = b0; a = b1; b = b2; c = b3; d = b4; marked = r2; begins = s2; named = n2; opens = t2; arguments = x2; body = y2 }) in
     some_else u (at (λ z. NoElse tokens z) h.ends g)
-procedure_once {tokens} {i} {j} {k} {p} {q} (D.procedure_else {i = a0} {j = a1} {k = a2} {l = a3} {m = a4} {n = a5} {o = a6} r s n t a b u c) f (D.procedure_else {i = b0} {j = b1} {k = b2} {l = b3} {m = b4} {n = b5} {o = b6} r2 s2 n2 t2 x2 y2 u2 c2) g =
+procedure_once {tokens} {i} {j} {k} {p} {q} (D.procedure_else {i = a0} {j = a1} {k = a2} {l = a3} {m = a4} {n = a5} {o = a6} {q = a7} r s n t a b u w c) f (D.procedure_else {i = b0} {j = b1} {k = b2} {l = b3} {m = b4} {n = b5} {o = b6} {q = b7} r2 s2 n2 t2 x2 y2 u2 w2 c2) g =
     let h = head_once tokens i a5 b5 p q (record { i = a0; a = a1; b = a2; c = a3; d = a4; marked = r; begins = s; named = n; opens = t; arguments = a; body = b })
     (record { i = b0; a = b1; b = b2; c = b3; d = b4; marked = r2; begins = s2; named = n2; opens = t2; arguments = x2; body = y2 }) in
     let u2' : Stands tokens K.Else a5 b6 = at (λ z. Stands tokens K.Else z b6) h.ends u2 in
-    let c2' : IsBlock tokens MAX_LEVELS a6 k q.otherwise.items = at (λ z. IsBlock tokens MAX_LEVELS z k q.otherwise.items) (same_end u u2') c2 in
+    let w2' : IsOptionalName tokens a6 b7 q.why = at (λ z. IsOptionalName tokens z b7 q.why) (same_end u u2') w2 in
+    let why = optional_once w (ap brace (block_starts c)) w2' (ap brace (block_starts c2)) in
+    let c2' : IsBlock tokens MAX_LEVELS a7 k q.otherwise.items = at (λ z. IsBlock tokens MAX_LEVELS z k q.otherwise.items) why.0 c2 in
     let other = block_once c c2' in
-    (other.0, record { mark = h.marked; name = h.named; arguments = h.arguments; body = h.body; otherwise = other.1 })
+    (other.0, record { mark = h.marked; name = h.named; arguments = h.arguments; body = h.body; why = why.1; otherwise = other.1 })
 
 -- ---- parts
 
@@ -271,8 +273,8 @@ mark_starts D.no_mark s = ap declares s.kind_is
 mark_starts (D.mark m) s = ap declares m.kind_is
 
 procedure_starts : {tokens : List Token} {i j : ℕ} {p : Procedure} → IsProcedure tokens i j p → declares (kind_at tokens i) ≡ 3
-procedure_starts (D.procedure r s n t a b none) = mark_starts r s
-procedure_starts (D.procedure_else r s n t a b u c) = mark_starts r s
+procedure_starts (D.procedure r s n t a b w none) = mark_starts r s
+procedure_starts (D.procedure_else r s n t a b u w c) = mark_starts r s
 
 abbrev rank : {tokens : List Token} {i j : ℕ} {d : Declaration} → IsDeclaration tokens i j d → ℕ
 rank (D.field s n t m u) = 1

@@ -36,6 +36,7 @@ same_kind K.LeftBrace K.LeftBrace e = refl
 same_kind K.RightBrace K.RightBrace e = refl
 same_kind K.Comma K.Comma e = refl
 same_kind K.Semicolon K.Semicolon e = refl
+same_kind K.Colon K.Colon e = refl
 same_kind K.Dot K.Dot e = refl
 same_kind K.Assign K.Assign e = refl
 same_kind K.AddAssign K.AddAssign e = refl

@@ -23,6 +23,7 @@ short_no_name (T.left_brace e) = refl
 short_no_name (T.right_brace e) = refl
 short_no_name (T.comma e) = refl
 short_no_name (T.semicolon e) = refl
+short_no_name (T.colon e) = refl
 short_no_name (T.dot e) = refl
 short_no_name (T.assign e) = refl
 short_no_name (T.plus e) = refl

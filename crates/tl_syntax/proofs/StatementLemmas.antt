@@ -1,9 +1,12 @@
 -- The rules for pushing a statement that was read to a list, where the list is given by an equation.
-use Rattle.std.proofs.Common.{◌≡◌, ℕ, List, [], ◌∷◌, ◌++◌, Option, None, Some, true, sym, ap, subst, ◌∙◌}
+use Rattle.std.proofs.Common.{◌≡◌, ℕ, ℤ, List, [], ◌∷◌, ◌++◌, Option, None, Some, true, sym, ap, subst, ◌∙◌}
 use Rattle.tl_syntax.specs.declared.token.Token.{Token}
 use Rattle.tl_syntax.specs.declared.token.TokenKind.TheVariants as K
 use Rattle.tl_syntax.specs.declared.parsed.Expression.{Expression}
-use Rattle.tl_syntax.specs.declared.parsed.Leave.{Leave}
+use Rattle.tl_syntax.specs.Codes.{code_of}
+use Rattle.tl_syntax.specs.declared.failure.Failure.{Failure}
+use Rattle.tl_syntax.specs.declared.parsed.Form.TheVariants as F
+use Rattle.tl_syntax.specs.declared.parsed.Name.{Name}
 use Rattle.tl_syntax.specs.declared.parsed.Write.{Write}
 use Rattle.tl_syntax.specs.declared.parsed.Action.{Action}
 use Rattle.tl_syntax.specs.declared.parsed.Action.TheVariants as A
@@ -15,7 +18,7 @@ use Rattle.tl_syntax.specs.declared.parsed.StatementForm.{StatementForm}
 use Rattle.tl_syntax.specs.declared.parsed.StatementForm.TheVariants as S
 use Rattle.tl_syntax.specs.Grammar.{kind_at, offset_at, Stands, IsExpression, Disjunction}
 use Rattle.tl_syntax.specs.Statements as R
-use Rattle.tl_syntax.specs.Statements.{AreExpressions, IsLeave, IsLeaving, IsWrite, AreMoreWrites, AreGiven, IsAction, allows_else, IsTail, IsBlock, IsForm, AreStatements, IsStatement, IsOnly, AreTwo, MayEnd, IsOther}
+use Rattle.tl_syntax.specs.Statements.{AreExpressions, IsLeaving, IsWrite, AreMoreWrites, AreGiven, IsAction, leaves_block, IsOptionalName, failure_of, IsTold, IsElsed, IsBlock, IsForm, AreStatements, IsStatement, IsOnly, AreTwo, MayEnd, IsOther, IsOtherwise}
 
 pub pushed_first : {A : Type 0} {old new : List A} {x : A} → new ≡ old ++ x ∷ [] → old ≡ [] → new ≡ x ∷ []
 pushed_first {x = x} e o = e ∙ ap (λ l. l ++ x ∷ []) o
@@ -46,14 +49,9 @@ pub two_pushed : {offset o : ℕ} {form other : StatementForm} {s : Statement} {
     AreTwo offset form other new
 two_pushed {offset} {form = form} {other = other} e (R.only a b) c d f = subst (λ all. AreTwo offset form other all) (sym e) (R.two a (b ∙ d) c (f ∙ d))
 
-pub leaving_only : {tokens : List Token} {i j k offset : ℕ} (l : Leave) {all : List Statement} → IsOnly offset (S.Act (A.Leave l) None) all →
-    IsLeave tokens i j l → Stands tokens K.Semicolon j k → offset ≡ offset_at tokens i → IsLeaving tokens i k all
-leaving_only l (R.only f g) a b o = R.leaving {l = l} a b f (g ∙ o)
-
-pub act_tail : {tokens : List Token} {levels i j k : ℕ} {a : Action} (t : Option Otherwise) → IsAction tokens levels i j a → allows_else a ≡ true →
-    IsTail tokens levels j k t → IsForm tokens levels i k (S.Act a t)
-act_tail None h allowed t = R.act h t
-act_tail (Some o) h allowed t = R.act_else h allowed t
+pub leaving_only : {tokens : List Token} {levels i j k offset : ℕ} {a : Action} {all : List Statement} → IsOnly offset (S.Act a None) all →
+    IsAction tokens levels i j a → leaves_block a ≡ true → Stands tokens K.Semicolon j k → offset ≡ offset_at tokens i → IsLeaving tokens levels i k all
+leaving_only (R.only f g) h l b o = R.leaving h l b f (g ∙ o)
 
 pub no_statements : {tokens : List Token} {levels i : ℕ} {all : List Statement} → all ≡ [] → AreStatements tokens levels i i all
 no_statements {tokens} {levels} {i} e = subst (λ all. AreStatements tokens levels i i all) (sym e) R.no_more
@@ -66,11 +64,20 @@ pub other_only : {tokens : List Token} {levels i j offset : ℕ} {form : Stateme
     kind_at tokens i ≡ K.If → IsForm tokens levels i j form → offset ≡ offset_at tokens i → IsOther tokens levels i j all
 other_only {tokens} {levels} {i} {j} (R.only f g) k x o = R.other_if k (R.statement (subst (λ z. IsForm tokens levels i j z) (sym f) x) (g ∙ o))
 
-pub tail_block : {tokens : List Token} {levels i j k l offset : ℕ} (o : Otherwise) (body : Vec Statement Global) → (out-Otherwise o).offset ≡ offset →
-    (out-Otherwise o).body ≡ body → Stands tokens K.Else i j → IsBlock tokens levels j k body.items → MayEnd tokens k l → offset ≡ offset_at tokens i →
-    IsTail tokens levels i l (Some o)
-tail_block {tokens} {levels} {j = j} {k = k} o body p q a b e f = R.block_else {o = o} a (subst (λ v. IsBlock tokens levels j k v.items) (sym q) b) e (p ∙ f)
+pub otherwise_block : {tokens : List Token} {levels i j k l m offset : ℕ} {why : Option Name} (o : Otherwise) (body : Vec Statement Global) → (out-Otherwise o).offset ≡ offset →
+    (out-Otherwise o).body ≡ body → Stands tokens K.Else i j → IsOptionalName tokens j k why → IsBlock tokens levels k l body.items → MayEnd tokens l m → offset ≡ offset_at tokens i →
+    IsOtherwise tokens levels i m why o
+otherwise_block {tokens} {levels} {k = k} {l = l} o body p q a n b e f = R.block_else {o = o} a n (subst (λ v. IsBlock tokens levels k l v.items) (sym q) b) e (p ∙ f)
 
-pub tail_leaving : {tokens : List Token} {levels i j k offset : ℕ} (o : Otherwise) (body : Vec Statement Global) → (out-Otherwise o).offset ≡ offset →
-    (out-Otherwise o).body ≡ body → Stands tokens K.Else i j → IsLeaving tokens j k body.items → offset ≡ offset_at tokens i → IsTail tokens levels i k (Some o)
-tail_leaving {tokens} {levels} {j = j} {k = k} o body p q a b f = R.leave_else {o = o} a (subst (λ v. IsLeaving tokens j k v.items) (sym q) b) (p ∙ f)
+pub otherwise_leaving : {tokens : List Token} {levels i j k offset : ℕ} (o : Otherwise) (body : Vec Statement Global) → (out-Otherwise o).offset ≡ offset →
+    (out-Otherwise o).body ≡ body → Stands tokens K.Else i j → IsLeaving tokens levels j k body.items → offset ≡ offset_at tokens i → IsOtherwise tokens levels i k None o
+otherwise_leaving {tokens} {levels} {j = j} {k = k} o body p q a b f = R.leave_else {o = o} a (subst (λ v. IsLeaving tokens levels j k v.items) (sym q) b) (p ∙ f)
+
+pub told_two : {why : Name} {failure : Failure} {body : Vec Statement Global} {e : Expression} {n : ℤ} {all : List Statement} → n ≡ code_of failure → e.form ≡ F.Number n → e.offset ≡ why.offset →
+    AreTwo why.offset (S.Act (A.Let why e) None) (S.Block body) all → IsTold why failure body all
+told_two c f o h = R.told (f ∙ ap F.Number c) o h
+
+pub in_else_told : {offset : ℕ} {a : Action} {why : Name} {failure : Failure} {o : Otherwise} (p : Otherwise) (body : Vec Statement Global) → failure_of a ≡ Some failure →
+    (out-Otherwise p).offset ≡ (out-Otherwise o).offset → (out-Otherwise p).body ≡ body → IsTold why failure (out-Otherwise o).body body.items → IsElsed offset a (Some why) o (S.Act a (Some p))
+in_else_told {why = why} {failure = failure} {o = o} p body e place same h =
+    R.in_else {o = o} {p = p} e (subst (λ v. IsTold why failure (out-Otherwise o).body v.items) (sym same) h) place

@@ -6,6 +6,9 @@ use Rattle.std.specs.declared.alloc.Global.{Global}
 use Rattle.tl_syntax.specs.declared.token.Token.{Token}
 use Rattle.tl_syntax.specs.declared.token.TokenKind.{TokenKind}
 use Rattle.tl_syntax.specs.declared.token.TokenKind.TheVariants as K
+use Rattle.tl_syntax.specs.Codes.{code_of}
+use Rattle.tl_syntax.specs.declared.failure.Failure.{Failure}
+use Rattle.tl_syntax.specs.declared.parsed.Form.TheVariants as F
 use Rattle.tl_syntax.specs.declared.parsed.Name.{Name}
 use Rattle.tl_syntax.specs.declared.parsed.Expression.{Expression}
 use Rattle.tl_syntax.specs.declared.parsed.Change.{Change}
@@ -20,19 +23,18 @@ use Rattle.tl_syntax.specs.declared.parsed.StatementForm.{StatementForm}
 use Rattle.tl_syntax.specs.declared.parsed.StatementForm.TheVariants as S
 use Rattle.tl_syntax.specs.Grammar.{kind_at, offset_at, Stands, IsName, Disjunction, IsExpression}
 use Rattle.tl_syntax.specs.Statements as R
-use Rattle.tl_syntax.specs.Statements.{word_at, word_most, word_each, word_of, word_while, IsLeave, IsChange, IsAction, IsQuestion, IsIndex, IsLeaving, IsBlock, AreStatements, IsStatement, IsForm, IsOnly, AreTwo, IsBoundedLoop, RequiresNot, IsWhile, IsLooped, MayEnd, IsOther, IsOtherwise}
+use Rattle.tl_syntax.specs.Statements.{word_at, word_most, word_each, word_of, word_while, IsLeave, IsChange, IsAction, IsQuestion, IsOptionalName, IsLeaving, IsTold, IsElsed, failure_of, IsBlock, AreStatements, IsStatement, IsForm, IsOnly, AreTwo, IsBoundedLoop, RequiresNot, IsWhile, IsLooped, MayEnd, IsOther, IsOtherwise}
 use Rattle.tl_syntax.specs.Alike as A
 use Rattle.tl_syntax.specs.Alike.{Alike, AlikeForm, AlikeAction, AlikeStatements, AlikeStatement, AlikeStatementForm, AlikeOtherwise}
 use Rattle.tl_syntax.proofs.ListsOnce.{Rest, done, append, Compared, within, another_compared, list_end}
 use Rattle.tl_syntax.proofs.ExpressionsOnce.{same_end, differ, same_name, once}
-use Rattle.tl_syntax.proofs.ActionsOnce.{at, ends, begins, expression_begins, same_leave, ends_here, heading, action_is, action_once, question_once}
+use Rattle.tl_syntax.proofs.ActionsOnce.{at, ends, begins, expression_begins, ends_here, heading, action_is, action_once, question_once}
 
-leaving_once : {tokens : List Token} {i j k : ℕ} {ss ts : List Statement} → IsLeaving tokens i j ss → IsLeaving tokens i k ts → (j ≡ k) × AlikeStatements ss ts
-leaving_once {tokens} {i = i} {k = end} (R.leaving {j = a1} {l = l} x s form o) (R.leaving {j = b1} {l = r} y t form2 o2) =
-    let same = same_leave tokens l r i a1 b1 x y in
+leaving_once : {tokens : List Token} {n m i j k : ℕ} {ss ts : List Statement} → IsLeaving tokens n i j ss → IsLeaving tokens m i k ts → (j ≡ k) × AlikeStatements ss ts
+leaving_once {tokens} {k = end} (R.leaving {j = a1} x l s form o) (R.leaving y r t form2 o2) =
+    let same = action_once x (ends_here s.kind_is refl refl refl refl) y (ends_here t.kind_is refl refl refl refl) in
     let t' : Stands tokens K.Semicolon a1 end = at (λ z. Stands tokens K.Semicolon z end) same.0 t in
-    let action : AlikeAction (V.Leave l) (V.Leave r) = subst (λ z. AlikeAction (V.Leave l) (V.Leave z)) same.1 A.same_action in
-    (same_end s t', A.next_statement A.no_statements (A.statement (o ∙ sym o2) (subst₂ AlikeStatementForm (sym form) (sym form2) (A.act action))))
+    (same_end s t', A.next_statement A.no_statements (A.statement (o ∙ sym o2) (subst₂ AlikeStatementForm (sym form) (sym form2) (A.act same.1))))
 
 -- the tokens that begin a statement: 1 for an action, higher numbers for other forms
 abbrev starting : TokenKind → ℕ
@@ -55,8 +57,8 @@ starting kind = 0
 
 abbrev form_rank : {tokens : List Token} {n i j : ℕ} {f : StatementForm} → IsForm tokens n i j f → ℕ
 form_rank (R.act a s) = 1
-form_rank (R.act_else a e o) = 1
-form_rank (R.try body other s b t c) = 2
+form_rank (R.act_else a e o d) = 1
+form_rank (R.try body other s b t n c) = 2
 form_rank (R.if body other s q b e) = 3
 form_rank (R.if_else body other s q b t c) = 3
 form_rank (R.repeat body s e b) = 4
@@ -75,21 +77,22 @@ action_starting (R.lets s n t e) = ap starting s.kind_is
 action_starting (R.assigns n c e) = ap starting n.stands.kind_is
 action_starting (R.writes (R.write n d f c e) others) = ap starting n.stands.kind_is
 action_starting (R.emits s es) = ap starting s.kind_is
-action_starting (R.requires s e) = ap starting s.kind_is
+action_starting (R.requires s e r) = ap starting s.kind_is
 action_starting (R.locks s p) = ap starting s.kind_is
 action_starting (R.descends s n t c a) = ap starting s.kind_is
 action_starting (R.takes s n t m) = ap starting s.kind_is
 action_starting (R.frees s n) = ap starting s.kind_is
 action_starting {tokens} (R.leaves {i = i} {j = j} {l = l} x) = leave_starting tokens l i j x
+action_starting (R.fails_with s c) = ap starting s.kind_is
 action_starting (R.uses n w s g) = ap starting n.stands.kind_is
 
-block_starts : {tokens : List Token} {n i j : ℕ} {ss : List Statement} → IsBlock tokens n i j ss → kind_at tokens i ≡ K.LeftBrace
+pub block_starts : {tokens : List Token} {n i j : ℕ} {ss : List Statement} → IsBlock tokens n i j ss → kind_at tokens i ≡ K.LeftBrace
 block_starts (R.block s a t) = s.kind_is
 
 form_is : {tokens : List Token} {n i j : ℕ} {f : StatementForm} (x : IsForm tokens n i j f) → starting (kind_at tokens i) ≡ form_rank x
 form_is (R.act a s) = action_starting a
-form_is (R.act_else a e o) = action_starting a
-form_is (R.try body other s b t c) = ap starting s.kind_is
+form_is (R.act_else a e o d) = action_starting a
+form_is (R.try body other s b t n c) = ap starting s.kind_is
 form_is (R.if body other s q b e) = ap starting s.kind_is
 form_is (R.if_else body other s q b t c) = ap starting s.kind_is
 form_is (R.repeat body s e b) = ap starting s.kind_is
@@ -100,8 +103,8 @@ form_is (R.while body all s h b c) = ap starting s.kind_is
 
 some_rank : {tokens : List Token} {n i j : ℕ} {f : StatementForm} (x : IsForm tokens n i j f) → 1 ≤ form_rank x
 some_rank (R.act a s) = omega arith
-some_rank (R.act_else a e o) = omega arith
-some_rank (R.try body other s b t c) = omega arith
+some_rank (R.act_else a e o d) = omega arith
+some_rank (R.try body other s b t n c) = omega arith
 some_rank (R.if body other s q b e) = omega arith
 some_rank (R.if_else body other s q b t c) = omega arith
 some_rank (R.repeat body s e b) = omega arith
@@ -163,9 +166,9 @@ loop_alike {xs = xs} {ys = ys} x y h (R.bounded other turn a b) (R.bounded other
     A.repeat turn turn2 y (only_alike b d (A.if xs other ys other2 (A.condition x) h (only_alike a c (A.act A.same_action))))
 
 requires_not_once : {tokens : List Token} {n m i offset : ℕ} {f g : StatementForm} → RequiresNot tokens n i offset f → RequiresNot tokens m i offset g → AlikeStatementForm f g
-requires_not_once {m = m} (R.requires_not x s form o) (R.requires_not {j = end} {a = b} y t form2 o2) =
+requires_not_once {m = m} (R.requires_not x s form o why p) (R.requires_not {j = end} {a = b} y t form2 o2 why2 p2) =
     let same = once x (ends s.kind_is refl) m end b.value y (ends t.kind_is refl) in
-    A.act (A.requires (A.alike (o ∙ sym o2) (subst₂ AlikeForm (sym form) (sym form2) (A.not same.1))))
+    A.act (A.requires (A.alike (o ∙ sym o2) (subst₂ AlikeForm (sym form) (sym form2) (A.not same.1))) (A.reason (A.alike (p ∙ sym p2) (subst₂ AlikeForm (sym why) (sym why2) A.same_form))))
 
 while_once : {tokens : List Token} {n m i j k : ℕ} {c d most more : Expression} → IsWhile tokens n i j c most → kind_at tokens j ≡ K.LeftBrace → IsWhile tokens m i k d more →
     kind_at tokens k ≡ K.LeftBrace → (j ≡ k) × Alike c d × Alike most more
@@ -191,12 +194,12 @@ statements_rest : {tokens : List Token} {n i k : ℕ} {ss : List Statement} → 
 statements_rest R.no_more = done
 statements_rest {n = n} (R.next a h) = append (statements_rest a) (record { levels = n; is = h })
 
-otherwise_starts : {tokens : List Token} {n i j : ℕ} {o : Otherwise} → IsOtherwise tokens n i j o → kind_at tokens i ≡ K.Else
-otherwise_starts (R.block_else {o = o} s b e p) = s.kind_is
+otherwise_starts : {tokens : List Token} {n i j : ℕ} {why : Option Name} {o : Otherwise} → IsOtherwise tokens n i j why o → kind_at tokens i ≡ K.Else
+otherwise_starts (R.block_else {o = o} s w b e p) = s.kind_is
 otherwise_starts (R.leave_else {o = o} s b p) = s.kind_is
 
-leaving_starts : {tokens : List Token} {i j : ℕ} {ss : List Statement} → IsLeaving tokens i j ss → starting (kind_at tokens i) ≡ 1
-leaving_starts {tokens} (R.leaving {i = i} {j = j} {l = l} x s form o) = leave_starting tokens l i j x
+leaving_starts : {tokens : List Token} {n i j : ℕ} {ss : List Statement} → IsLeaving tokens n i j ss → starting (kind_at tokens i) ≡ 1
+leaving_starts (R.leaving x l s form o) = action_starting x
 
 -- the token of a block, or another one that is allowed there
 abbrev bracing : TokenKind → ℕ
@@ -212,20 +215,73 @@ ending K.RightBrace = 1
 ending K.End = 1
 ending kind = 0
 
--- a parenthesis, or another token that may follow the name of a loop's child
-abbrev parting : TokenKind → ℕ
+-- a parenthesis, or another token
+abbrev pub parting : TokenKind → ℕ
 parting K.LeftParenthesis = 1
 parting kind = 0
 
-index_once : {tokens : List Token} {i j k l m : ℕ} {x y : Option Name} → IsIndex tokens i j x → Stands tokens word_of j l → IsIndex tokens i k y →
-    Stands tokens word_of k m → (j ≡ k) × (x ≡ y)
-index_once R.no_index s R.no_index t = (refl, refl)
-index_once R.no_index s (R.index a n b) t = differ parting s.kind_is a.kind_is (omega arith)
-index_once (R.index a n b) s R.no_index t = differ parting t.kind_is a.kind_is (omega arith)
-index_once {tokens} {k = end} (R.index {j = a1} {k = a2} a n b) s (R.index {k = b2} {n = y} c m d) t =
+-- the token behind a name that may be left out is no parenthesis
+pub optional_once : {tokens : List Token} {i j k : ℕ} {x y : Option Name} → IsOptionalName tokens i j x → parting (kind_at tokens j) ≡ 0 → IsOptionalName tokens i k y →
+    parting (kind_at tokens k) ≡ 0 → (j ≡ k) × (x ≡ y)
+optional_once R.no_name s R.no_name t = (refl, refl)
+optional_once R.no_name s (R.some_name a n b) t = absurd (omega (arith, s, ap parting a.kind_is))
+optional_once (R.some_name a n b) s R.no_name t = absurd (omega (arith, t, ap parting a.kind_is))
+optional_once {tokens} {k = end} (R.some_name {j = a1} {k = a2} a n b) s (R.some_name {k = b2} {n = y} c m d) t =
     let m' : IsName tokens a1 b2 y = at (λ z. IsName tokens z b2 y) (same_end a c) m in
     let d' : Stands tokens K.RightParenthesis a2 end = at (λ z. Stands tokens K.RightParenthesis z end) (same_end n.stands m'.stands) d in
     (same_end b d', ap Some (same_name n m'))
+
+-- no `break`, `return` or `fail` stands where a block does, or a name before it
+no_leaving : {A : Type 0} {tokens : List Token} {n i j k : ℕ} {why : Option Name} {ss : List Statement} → IsOptionalName tokens i j why → IsBlock tokens n j k ss →
+    starting (kind_at tokens i) ≡ 1 → A
+no_leaving R.no_name b e = absurd (omega (arith, e, ap starting (block_starts b)))
+no_leaving (R.some_name a n c) b e = absurd (omega (arith, e, ap starting a.kind_is))
+
+-- ---- an `else` with a name for the code
+
+failure_once : {a b : Action} → AlikeAction a b → failure_of a ≡ failure_of b
+failure_once A.same_action = refl
+failure_once (A.lets x) = refl
+failure_once (A.assigns x) = refl
+failure_once (A.writes x h) = refl
+failure_once (A.emits x) = refl
+failure_once (A.requires x y) = refl
+failure_once (A.locks (A.node x)) = refl
+failure_once (A.locks (A.child x)) = refl
+failure_once (A.locks (A.pair x y)) = refl
+failure_once (A.descends x) = refl
+failure_once (A.fails_with x) = refl
+failure_once (A.uses x) = refl
+
+told_once : {why : Name} {f g : Failure} {xs ys : Vec Statement Global} {ss ts : List Statement} → f ≡ g → AlikeStatements xs.items ys.items → IsTold why f xs ss → IsTold why g ys ts →
+    AlikeStatements ss ts
+told_once {f = f} {xs = xs} {ys = ys} same h (R.told x o s) (R.told y p t) =
+    let numbers : AlikeForm (F.Number (code_of f)) (F.Number (code_of f)) = A.same_form in
+    let other = subst (λ z. AlikeForm (F.Number (code_of f)) (F.Number (code_of z))) same numbers in
+    two_alike s t (A.act (A.lets (A.alike (o ∙ sym p) (subst₂ AlikeForm (sym x) (sym y) other)))) (A.block_alone xs ys h)
+
+body_of : {o p : Otherwise} → AlikeOtherwise o p → ((out-Otherwise o).offset ≡ (out-Otherwise p).offset) × AlikeStatements (out-Otherwise o).body.items (out-Otherwise p).body.items
+body_of (A.otherwise e h) = (e, h)
+
+elsed_once : {offset : ℕ} {a b : Action} {x y : Option Name} {o p : Otherwise} {f g : StatementForm} → AlikeAction a b → x ≡ y → AlikeOtherwise o p → IsElsed offset a x o f →
+    IsElsed offset b y p g → AlikeStatementForm f g
+elsed_once same e other R.unnamed R.unnamed = A.act_else same other
+elsed_once same e other R.unnamed (R.in_try body none only) = cc
+elsed_once same e other R.unnamed (R.in_else is told there) = cc
+elsed_once same e other (R.in_try body none only) R.unnamed = cc
+elsed_once same e other (R.in_else is told there) R.unnamed = cc
+elsed_once same e other (R.in_try body none only) (R.in_else is told there) = let f = failure_once same in cc
+elsed_once same e other (R.in_else is told there) (R.in_try body none only) = let f = failure_once same in cc
+elsed_once same e other (R.in_try {why = x} {o = o} body none only) (R.in_try {why = y} {o = p} body2 none2 only2) =
+    let names : x ≡ y = cc in
+    let alike : AlikeStatementForm (S.Try (Some x) body (out-Otherwise o).body) (S.Try (Some x) body2 (out-Otherwise p).body) =
+    A.try body (out-Otherwise o).body body2 (out-Otherwise p).body (only_alike only only2 (A.act same)) (body_of other).1 in
+    subst (λ z. AlikeStatementForm (S.Try (Some x) body (out-Otherwise o).body) (S.Try (Some z) body2 (out-Otherwise p).body)) names alike
+elsed_once same e other (R.in_else {why = x} {failure = f} {o = o} {p = p} is told there) (R.in_else {why = y} {failure = g} {o = q} {p = r} is2 told2 there2) =
+    let names : x ≡ y = cc in
+    let failures : f ≡ g = let h = failure_once same in cc in
+    let told2' : IsTold x g (out-Otherwise q).body (out-Otherwise r).body.items = subst (λ z. IsTold z g (out-Otherwise q).body (out-Otherwise r).body.items) (sym names) told2 in
+    A.act_else same (A.otherwise {o = p} {p = r} (there ∙ (body_of other).0 ∙ sym there2) (told_once failures (body_of other).1 told told2'))
 
 mutual
   pub block_once : {tokens : List Token} {n m i j k : ℕ} {ss ts : List Statement} → IsBlock tokens n i j ss → IsBlock tokens m i k ts → (j ≡ k) × AlikeStatements ss ts
@@ -251,50 +307,52 @@ mutual
   form_once : {tokens : List Token} {n m i j k : ℕ} {f g : StatementForm} → IsForm tokens n i j f → NoElse tokens j → IsForm tokens m i k g → NoElse tokens k →
       (j ≡ k) × AlikeStatementForm f g
   form_once {tokens} {k = end} (R.act {j = a1} x s) f (R.act y t) g =
-      let same = action_once x (ends_here s.kind_is refl refl) y (ends_here t.kind_is refl refl) in
+      let same = action_once x (ends_here s.kind_is refl refl refl refl) y (ends_here t.kind_is refl refl refl refl) in
       let t' : Stands tokens K.Semicolon a1 end = at (λ z. Stands tokens K.Semicolon z end) same.0 t in
       (same_end s t', A.act same.1)
-  form_once {tokens} {k = end} (R.act {j = a1} x s) f (R.act_else y e o) g =
-      let same = action_once x (ends_here s.kind_is refl refl) y (ends_here (otherwise_starts o) refl refl) in
+  form_once {tokens} {k = end} (R.act {j = a1} x s) f (R.act_else y e o d) g =
+      let same = action_once x (ends_here s.kind_is refl refl refl refl) y (ends_here (otherwise_starts o) refl refl refl refl) in
       let there : kind_at tokens a1 ≡ K.Else = at (λ z. kind_at tokens z ≡ K.Else) same.0 (otherwise_starts o) in
       differ ending there s.kind_is (omega arith)
-  form_once {tokens} (R.act_else {j = a1} x e o) f (R.act y t) g =
-      let same = action_once x (ends_here (otherwise_starts o) refl refl) y (ends_here t.kind_is refl refl) in
+  form_once {tokens} (R.act_else {j = a1} x e o d) f (R.act y t) g =
+      let same = action_once x (ends_here (otherwise_starts o) refl refl refl refl) y (ends_here t.kind_is refl refl refl refl) in
       let there : kind_at tokens a1 ≡ K.Semicolon = at (λ z. kind_at tokens z ≡ K.Semicolon) same.0 t.kind_is in
       differ ending (otherwise_starts o) there (omega arith)
-  form_once {tokens} {m = m} {k = end} (R.act_else {j = a1} x e o) f (R.act_else {o = p} y e2 o2) g =
-      let same = action_once x (ends_here (otherwise_starts o) refl refl) y (ends_here (otherwise_starts o2) refl refl) in
-      let o2' : IsOtherwise tokens m a1 end p = at (λ z. IsOtherwise tokens m z end p) same.0 o2 in
+  form_once {tokens} {m = m} {k = end} (R.act_else {j = a1} x e o d) f (R.act_else {why = why} {o = p} y e2 o2 d2) g =
+      let same = action_once x (ends_here (otherwise_starts o) refl refl refl refl) y (ends_here (otherwise_starts o2) refl refl refl refl) in
+      let o2' : IsOtherwise tokens m a1 end why p = at (λ z. IsOtherwise tokens m z end why p) same.0 o2 in
       let other = otherwise_once o o2' in
-      (other.0, A.act_else same.1 other.1)
-  form_once {tokens} {m = m} {k = end} (R.try {j = a1} {k = a2} {l = a3} body other s b t c) f (R.try {k = b2} {l = b3} body2 other2 s2 b' t2 c') g =
+      (other.0, elsed_once same.1 other.1 other.2 d d2)
+  form_once {tokens} {m = m} {k = end} (R.try {j = a1} {k = a2} {l = a3} {m = a4} {why = x} body other s b t n c) f (R.try {k = b2} {l = b3} {m = b4} {why = y} body2 other2 s2 b' t2 n2 c') g =
       let b2' : IsBlock tokens m a1 b2 body2.items = at (λ z. IsBlock tokens m z b2 body2.items) (same_end s s2) b' in
       let first = block_once b b2' in
       let t2' : Stands tokens K.Else a2 b3 = at (λ z. Stands tokens K.Else z b3) first.0 t2 in
-      let c2' : IsBlock tokens m a3 end other2.items = at (λ z. IsBlock tokens m z end other2.items) (same_end t t2') c' in
+      let n2' : IsOptionalName tokens a3 b4 y = at (λ z. IsOptionalName tokens z b4 y) (same_end t t2') n2 in
+      let named = optional_once n (ap parting (block_starts c)) n2' (ap parting (block_starts c')) in
+      let c2' : IsBlock tokens m a4 end other2.items = at (λ z. IsBlock tokens m z end other2.items) named.0 c' in
       let second = block_once c c2' in
-      (second.0, A.try body other body2 other2 first.1 second.1)
+      (second.0, subst (λ z. AlikeStatementForm (S.Try x body other) (S.Try z body2 other2)) named.1 (A.try body other body2 other2 first.1 second.1))
   form_once {tokens} {k = end} (R.if {j = a1} {k = a2} body other s q b none) f (R.if {levels = m} {k = b2} {q = r} body2 other2 s2 q2 b2' none2) g =
       let q2' : IsQuestion tokens m a1 b2 r = at (λ z. IsQuestion tokens m z b2 r) (same_end s s2) q2 in
-      let asked = question_once q (ends_here (block_starts b) refl refl) q2' (ends_here (block_starts b2') refl refl) in
+      let asked = question_once q (ends_here (block_starts b) refl refl refl refl) q2' (ends_here (block_starts b2') refl refl refl refl) in
       let c2 : IsBlock tokens m a2 end body2.items = at (λ z. IsBlock tokens m z end body2.items) asked.0 b2' in
       let first = block_once b c2 in
       (first.0, A.if body other body2 other2 asked.1 first.1 (subst₂ AlikeStatements (sym none) (sym none2) A.no_statements))
   form_once {tokens} {k = end} (R.if {j = a1} {k = a2} body other s q b none) f (R.if_else {levels = m} {k = b2} {l = b3} {q = r} body2 other2 s2 q2 b2' t o) g =
       let q2' : IsQuestion tokens m a1 b2 r = at (λ z. IsQuestion tokens m z b2 r) (same_end s s2) q2 in
-      let asked = question_once q (ends_here (block_starts b) refl refl) q2' (ends_here (block_starts b2') refl refl) in
+      let asked = question_once q (ends_here (block_starts b) refl refl refl refl) q2' (ends_here (block_starts b2') refl refl refl refl) in
       let c2 : IsBlock tokens m a2 b3 body2.items = at (λ z. IsBlock tokens m z b3 body2.items) asked.0 b2' in
       let first = block_once b c2 in
       some_else t (subst (λ z. NoElse tokens z) first.0 f)
   form_once {tokens} {k = end} (R.if_else {j = a1} {k = a2} body other s q b t o) f (R.if {levels = m} {k = b2} {q = r} body2 other2 s2 q2 b2' none2) g =
       let q2' : IsQuestion tokens m a1 b2 r = at (λ z. IsQuestion tokens m z b2 r) (same_end s s2) q2 in
-      let asked = question_once q (ends_here (block_starts b) refl refl) q2' (ends_here (block_starts b2') refl refl) in
+      let asked = question_once q (ends_here (block_starts b) refl refl refl refl) q2' (ends_here (block_starts b2') refl refl refl refl) in
       let c2 : IsBlock tokens m a2 end body2.items = at (λ z. IsBlock tokens m z end body2.items) asked.0 b2' in
       let first = block_once b c2 in
       some_else t (at (λ z. NoElse tokens z) first.0 g)
   form_once {tokens} {k = end} (R.if_else {j = a1} {k = a2} {l = a3} {m = a4} body other s q b t o) f (R.if_else {levels = m} {k = b2} {l = b3} {m = b4} {q = r} body2 other2 s2 q2 b2' t2 o2) g =
       let q2' : IsQuestion tokens m a1 b2 r = at (λ z. IsQuestion tokens m z b2 r) (same_end s s2) q2 in
-      let asked = question_once q (ends_here (block_starts b) refl refl) q2' (ends_here (block_starts b2') refl refl) in
+      let asked = question_once q (ends_here (block_starts b) refl refl refl refl) q2' (ends_here (block_starts b2') refl refl refl refl) in
       let c2 : IsBlock tokens m a2 b3 body2.items = at (λ z. IsBlock tokens m z b3 body2.items) asked.0 b2' in
       let first = block_once b c2 in
       let t2' : Stands tokens K.Else a3 b4 = at (λ z. Stands tokens K.Else z b4) first.0 t2 in
@@ -333,8 +391,8 @@ mutual
       let t2' : Stands tokens word_each a1 b2 = at (λ z. Stands tokens word_each z b2) (same_end s1 t1) t2 in
       let t3' : Stands tokens K.Child a2 b3 = at (λ z. Stands tokens K.Child z b3) (same_end s2 t2') t3 in
       let m1' : IsName tokens a3 b4 x2 = at (λ z. IsName tokens z b4 x2) (same_end s3 t3') m1 in
-      let i2' : IsIndex tokens a4 b5 z2 = at (λ z. IsIndex tokens z b5 z2) (same_end n1.stands m1'.stands) i2 in
-      let place = index_once i1 s4 i2' t4 in
+      let i2' : IsOptionalName tokens a4 b5 z2 = at (λ z. IsOptionalName tokens z b5 z2) (same_end n1.stands m1'.stands) i2 in
+      let place = optional_once i1 (ap parting s4.kind_is) i2' (ap parting t4.kind_is) in
       let t4' : Stands tokens word_of a5 b6 = at (λ z. Stands tokens word_of z b6) place.0 t4 in
       let m2' : IsName tokens a6 b7 y2 = at (λ z. IsName tokens z b7 y2) (same_end s4 t4') m2 in
       let t5' : Stands tokens word_at a7 b8 = at (λ z. Stands tokens word_at z b8) (same_end n2.stands m2'.stands) t5 in
@@ -348,9 +406,9 @@ mutual
       (first.0, subst₂ (λ z w. AlikeStatementForm (S.ForEach x z1 y most1 body) (S.ForEach z z2 w most2 body2)) (same_name n1 m1') (same_name n2 m2') alike)
   form_once (R.block_alone body b) f (R.block_alone body2 c) g = let same = block_once b c in (same.0, A.block_alone body body2 same.1)
   form_once (R.act x s) f (R.while body all t (R.heads e u v m) b c) g = no_while x t e
-  form_once (R.act_else x e o) f (R.while body all t (R.heads h u v m) b c) g = no_while x t h
+  form_once (R.act_else x e o d) f (R.while body all t (R.heads h u v m) b c) g = no_while x t h
   form_once (R.while body all t (R.heads e u v m) b c) f (R.act x s) g = no_while x t e
-  form_once (R.while body all t (R.heads h u v m) b c) f (R.act_else x e o) g = no_while x t h
+  form_once (R.while body all t (R.heads h u v m) b c) f (R.act_else x e o d) g = no_while x t h
   form_once {tokens} {i = i} {k = end} (R.while {j = a1} {k = a2} body all s h b u) f (R.while {levels = m} {j = b1} {k = b2} {condition = e2} {most = most2} body2 all2 s2 h2 b' u2) g =
       let h2' : IsWhile tokens m a1 b2 e2 most2 = at (λ z. IsWhile tokens m z b2 e2 most2) (same_end s s2) h2 in
       let same = while_once h (block_starts b) h2' (block_starts b') in
@@ -367,18 +425,19 @@ mutual
   other_once (R.other_if e s) f (R.other_block c) g = differ bracing e (block_starts c) (omega arith)
   other_once (R.other_if e s) f (R.other_if e2 t) g = let same = statement_once s f t g in (same.0, A.next_statement A.no_statements same.1)
 
-  otherwise_once : {tokens : List Token} {n m i j k : ℕ} {o p : Otherwise} → IsOtherwise tokens n i j o → IsOtherwise tokens m i k p → (j ≡ k) × AlikeOtherwise o p
-  otherwise_once {tokens} {m = m} {k = end} (R.block_else {j = a1} {k = a2} {o = o} s b e x) (R.block_else {k = b2} {o = p} s2 c e2 y) =
-      let c' : IsBlock tokens m a1 b2 (out-Otherwise p).body.items = at (λ z. IsBlock tokens m z b2 (out-Otherwise p).body.items) (same_end s s2) c in
+  otherwise_once : {tokens : List Token} {n m i j k : ℕ} {x y : Option Name} {o p : Otherwise} → IsOtherwise tokens n i j x o → IsOtherwise tokens m i k y p →
+      (j ≡ k) × (x ≡ y) × AlikeOtherwise o p
+  otherwise_once {tokens} {m = m} {k = end} (R.block_else {j = a1} {k = a2} {o = o} s w b e x) (R.block_else {k = b2} {l = b3} {why = why} {o = p} s2 w2 c e2 y) =
+      let w2' : IsOptionalName tokens a1 b2 why = at (λ z. IsOptionalName tokens z b2 why) (same_end s s2) w2 in
+      let named = optional_once w (ap parting (block_starts b)) w2' (ap parting (block_starts c)) in
+      let c' : IsBlock tokens m a2 b3 (out-Otherwise p).body.items = at (λ z. IsBlock tokens m z b3 (out-Otherwise p).body.items) named.0 c in
       let same = block_once b c' in
-      (may_end_once e (at (λ z. MayEnd tokens z end) same.0 e2), A.otherwise {o = o} {p = p} (x ∙ sym y) same.1)
-  otherwise_once {tokens} (R.block_else {j = a1} {o = o} s b e x) (R.leave_else {j = b1} {o = p} s2 l y) =
-      let there : starting (kind_at tokens a1) ≡ 1 = at (λ z. starting (kind_at tokens z) ≡ 1) (same_end s s2) (leaving_starts l) in
-      absurd (omega (arith, there, ap starting (block_starts b)))
-  otherwise_once {tokens} (R.leave_else {j = a1} {o = o} s l x) (R.block_else {j = b1} {o = p} s2 b e y) =
-      let there : kind_at tokens a1 ≡ K.LeftBrace = at (λ z. kind_at tokens z ≡ K.LeftBrace) (same_end s s2) (block_starts b) in
-      absurd (omega (arith, leaving_starts l, ap starting there))
-  otherwise_once {tokens} {k = end} (R.leave_else {j = a1} {o = o} s l x) (R.leave_else {o = p} s2 l2 y) =
-      let l2' : IsLeaving tokens a1 end (out-Otherwise p).body.items = at (λ z. IsLeaving tokens z end (out-Otherwise p).body.items) (same_end s s2) l2 in
+      (may_end_once e (at (λ z. MayEnd tokens z end) same.0 e2), named.1, A.otherwise {o = o} {p = p} (x ∙ sym y) same.1)
+  otherwise_once {tokens} (R.block_else {o = o} s w b e x) (R.leave_else {o = p} s2 l y) =
+      no_leaving w b (at (λ z. starting (kind_at tokens z) ≡ 1) (same_end s s2) (leaving_starts l))
+  otherwise_once {tokens} (R.leave_else {o = o} s l x) (R.block_else {o = p} s2 w b e y) =
+      no_leaving w b (at (λ z. starting (kind_at tokens z) ≡ 1) (same_end s2 s) (leaving_starts l))
+  otherwise_once {tokens} {m = m} {k = end} (R.leave_else {j = a1} {o = o} s l x) (R.leave_else {o = p} s2 l2 y) =
+      let l2' : IsLeaving tokens m a1 end (out-Otherwise p).body.items = at (λ z. IsLeaving tokens m z end (out-Otherwise p).body.items) (same_end s s2) l2 in
       let same = leaving_once l l2' in
-      (same.0, A.otherwise {o = o} {p = p} (x ∙ sym y) same.1)
+      (same.0, refl, A.otherwise {o = o} {p = p} (x ∙ sym y) same.1)

@@ -25,6 +25,7 @@ short_of b =
     if b == 125 then K.RightBrace else (
     if b == 44 then K.Comma else (
     if b == 59 then K.Semicolon else (
+    if b == 58 then K.Colon else (
     if b == 46 then K.Dot else (
     if b == 61 then K.Assign else (
     if b == 43 then K.Plus else (
@@ -34,7 +35,7 @@ short_of b =
     if b == 37 then K.Remainder else (
     if b == 60 then K.Less else (
     if b == 62 then K.Greater else (
-    K.End)))))))))))))))
+    K.End))))))))))))))))
 
 long_of : ℕ → TokenKind
 long_of b =
@@ -81,6 +82,7 @@ short_is (T.left_brace e) = ap short_of e
 short_is (T.right_brace e) = ap short_of e
 short_is (T.comma e) = ap short_of e
 short_is (T.semicolon e) = ap short_of e
+short_is (T.colon e) = ap short_of e
 short_is (T.dot e) = ap short_of e
 short_is (T.assign e) = ap short_of e
 short_is (T.plus e) = ap short_of e
@@ -133,6 +135,7 @@ short_sign (T.left_brace e) = subst IsSign (sym e) (refl, refl, refl)
 short_sign (T.right_brace e) = subst IsSign (sym e) (refl, refl, refl)
 short_sign (T.comma e) = subst IsSign (sym e) (refl, refl, refl)
 short_sign (T.semicolon e) = subst IsSign (sym e) (refl, refl, refl)
+short_sign (T.colon e) = subst IsSign (sym e) (refl, refl, refl)
 short_sign (T.dot e) = subst IsSign (sym e) (refl, refl, refl)
 short_sign (T.assign e) = subst IsSign (sym e) (refl, refl, refl)
 short_sign (T.plus e) = subst IsSign (sym e) (refl, refl, refl)

@@ -64,15 +64,21 @@ pub data AlikeWrites : List Write → List Write → Type 0 where
   no_writes : AlikeWrites [] []
   more_writes : {vs ws : List Write} {v w : Write} → AlikeWrite v w → AlikeWrites vs ws → AlikeWrites (v ∷ vs) (w ∷ ws)
 
+-- two codes, or none
+pub data AlikeReason : Option Expression → Option Expression → Type 0 where
+  no_reason : AlikeReason None None
+  reason : {e f : Expression} → Alike e f → AlikeReason (Some e) (Some f)
+
 pub data AlikeAction : Action → Action → Type 0 where
   same_action : {a : Action} → AlikeAction a a
   lets : {n : Name} {e f : Expression} → Alike e f → AlikeAction (A.Let n e) (A.Let n f)
   assigns : {n : Name} {c : Change} {e f : Expression} → Alike e f → AlikeAction (A.Assign n c e) (A.Assign n c f)
   writes : {v w : Write} {vs ws : Vec Write Global} → AlikeWrite v w → AlikeWrites vs.items ws.items → AlikeAction (A.Write v vs) (A.Write w ws)
   emits : {es fs : Vec Expression Global} → AreAlike es.items fs.items → AlikeAction (A.Emit es) (A.Emit fs)
-  requires : {e f : Expression} → Alike e f → AlikeAction (A.Require e) (A.Require f)
+  requires : {e f : Expression} {why why' : Option Expression} → Alike e f → AlikeReason why why' → AlikeAction (A.Require e why) (A.Require f why')
   locks : {p q : Place} → AlikePlace p q → AlikeAction (A.Lock p) (A.Lock q)
   descends : {n : Name} {e f : Expression} → Alike e f → AlikeAction (A.Descend n e) (A.Descend n f)
+  fails_with : {e f : Expression} → Alike e f → AlikeAction (A.Fail e) (A.Fail f)
   uses : {n : Name} {es fs : Vec Expression Global} → AreAlike es.items fs.items → AlikeAction (A.Use n es) (A.Use n fs)
 
 pub data AlikeQuestion : Question → Question → Type 0 where
@@ -91,8 +97,8 @@ mutual
   pub data AlikeStatementForm : StatementForm → StatementForm → Type 0 where
     act : {a b : Action} → AlikeAction a b → AlikeStatementForm (S.Act a None) (S.Act b None)
     act_else : {a b : Action} {o p : Otherwise} → AlikeAction a b → AlikeOtherwise o p → AlikeStatementForm (S.Act a (Some o)) (S.Act b (Some p))
-    try : (body other body' other' : Vec Statement Global) → AlikeStatements body.items body'.items → AlikeStatements other.items other'.items →
-        AlikeStatementForm (S.Try body other) (S.Try body' other')
+    try : {why : Option Name} (body other body' other' : Vec Statement Global) → AlikeStatements body.items body'.items → AlikeStatements other.items other'.items →
+        AlikeStatementForm (S.Try why body other) (S.Try why body' other')
     if : {q r : Question} (body other body' other' : Vec Statement Global) → AlikeQuestion q r → AlikeStatements body.items body'.items →
         AlikeStatements other.items other'.items → AlikeStatementForm (S.If q body other) (S.If r body' other')
     repeat : {e f : Expression} (body body' : Vec Statement Global) → Alike e f → AlikeStatements body.items body'.items →
@@ -112,6 +118,7 @@ pub record AlikeProcedure (p q : Procedure) : Type 0 where
   pub name : p.name ≡ q.name
   pub arguments : p.arguments.items ≡ q.arguments.items
   pub body : AlikeStatements p.body.items q.body.items
+  pub why : p.why ≡ q.why
   pub otherwise : AlikeStatements p.otherwise.items q.otherwise.items
 
 pub record AlikePart (p q : Part) : Type 0 where

@@ -1,5 +1,5 @@
 -- The grammar of declarations. Each rule says what the tokens from i up to but not including j denote.
-use Rattle.std.specs.Prelude.{◌≡◌, ◌≢◌, ℕ, ◌-◌, ◌<◌, ◌≤◌, List, [], ◌∷◌, ◌++◌, Bool, true, false}
+use Rattle.std.specs.Prelude.{◌≡◌, ◌≢◌, ℕ, ◌-◌, ◌<◌, ◌≤◌, List, [], ◌∷◌, ◌++◌, Bool, true, false, None}
 use Rattle.tl_syntax.specs.declared.token.Token.{Token}
 use Rattle.tl_syntax.specs.declared.token.TokenKind.{TokenKind}
 use Rattle.tl_syntax.specs.declared.token.TokenKind.TheVariants as K
@@ -13,7 +13,7 @@ use Rattle.tl_syntax.specs.declared.parsed.Declaration.{Declaration}
 use Rattle.tl_syntax.specs.declared.parsed.Declaration.TheVariants as D
 use Rattle.tl_syntax.specs.declared.parser.TheConstants.{MAX_LEVELS}
 use Rattle.tl_syntax.specs.Grammar.{kind_at, Stands, IsName, IsExpression, Disjunction}
-use Rattle.tl_syntax.specs.Statements.{word_while, IsBlock}
+use Rattle.tl_syntax.specs.Statements.{word_while, IsOptionalName, IsBlock}
 
 -- one or more names, separated by commas
 pub data AreNames (tokens : List Token) : ℕ → ℕ → List Name → Type 0 where
@@ -34,13 +34,13 @@ pub data IsMark (tokens : List Token) : ℕ → ℕ → Bool → Type 0 where
   no_mark : {i : ℕ} → IsMark tokens i i false
   mark : {i j : ℕ} → Stands tokens word_atomic i j → IsMark tokens i j true
 
--- a procedure: optionally a mark, its name, arguments and body, and optionally an `else` block
+-- a procedure: optionally a mark, its name, arguments and body, and optionally an `else` block, which may name the code of the failure
 pub data IsProcedure (tokens : List Token) : ℕ → ℕ → Procedure → Type 0 where
   procedure : {h i j k l m n : ℕ} {p : Procedure} → IsMark tokens h i p.is_atomic → Stands tokens K.Proc i j → IsName tokens j k p.name → Stands tokens K.LeftParenthesis k l →
-      AreArguments tokens l m p.arguments.items → IsBlock tokens MAX_LEVELS m n p.body.items → p.otherwise.items ≡ [] → IsProcedure tokens h n p
-  procedure_else : {h i j k l m n o q : ℕ} {p : Procedure} → IsMark tokens h i p.is_atomic → Stands tokens K.Proc i j → IsName tokens j k p.name → Stands tokens K.LeftParenthesis k l →
-      AreArguments tokens l m p.arguments.items → IsBlock tokens MAX_LEVELS m n p.body.items → Stands tokens K.Else n o → IsBlock tokens MAX_LEVELS o q p.otherwise.items →
-      IsProcedure tokens h q p
+      AreArguments tokens l m p.arguments.items → IsBlock tokens MAX_LEVELS m n p.body.items → p.why ≡ None → p.otherwise.items ≡ [] → IsProcedure tokens h n p
+  procedure_else : {h i j k l m n o q r : ℕ} {p : Procedure} → IsMark tokens h i p.is_atomic → Stands tokens K.Proc i j → IsName tokens j k p.name → Stands tokens K.LeftParenthesis k l →
+      AreArguments tokens l m p.arguments.items → IsBlock tokens MAX_LEVELS m n p.body.items → Stands tokens K.Else n o → IsOptionalName tokens o q p.why → IsBlock tokens MAX_LEVELS q r p.otherwise.items →
+      IsProcedure tokens h r p
 
 abbrev pub word_part : TokenKind
 word_part = K.Name (record { 0 = 7 })

@@ -6,6 +6,7 @@ use Rattle.tl_syntax.specs.declared.fault.Wrong.TheVariants as W
 abbrev pub number_of : Wrong → ℕ
 number_of W.Character = 270
 number_of W.Number = 271
+number_of W.LongCode = 271
 number_of W.LongName = 272
 number_of W.Misplaced = 273
 number_of W.NoSemicolon = 273
@@ -16,6 +17,7 @@ number_of W.NoBound = 273
 number_of W.PartReturns = 273
 number_of W.PartName = 273
 number_of W.RestOperand = 273
+number_of W.CodeForm = 273
 number_of W.TooDeep = 274
 number_of W.Blocks = 274
 number_of W.PartDepth = 274

@@ -1,4 +1,5 @@
 pub mod Alike
+pub mod Codes
 pub mod Declarations
 pub mod Faults
 pub mod Grammar

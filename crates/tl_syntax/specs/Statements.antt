@@ -6,8 +6,11 @@ use Rattle.std.specs.declared.alloc.Global.{Global}
 use Rattle.tl_syntax.specs.declared.token.Token.{Token}
 use Rattle.tl_syntax.specs.declared.token.TokenKind.{TokenKind}
 use Rattle.tl_syntax.specs.declared.token.TokenKind.TheVariants as K
+use Rattle.tl_syntax.specs.declared.failure.Failure.{Failure}
+use Rattle.tl_syntax.specs.declared.failure.Failure.TheVariants as W
 use Rattle.tl_syntax.specs.declared.parsed.Name.{Name}
 use Rattle.tl_syntax.specs.declared.parsed.Expression.{Expression}
+use Rattle.tl_syntax.specs.declared.parsed.Form.{Form}
 use Rattle.tl_syntax.specs.declared.parsed.Form.TheVariants as F
 use Rattle.tl_syntax.specs.declared.parsed.Child.{Child}
 use Rattle.tl_syntax.specs.declared.parsed.Place.{Place}
@@ -25,6 +28,7 @@ use Rattle.tl_syntax.specs.declared.parsed.Otherwise.{Otherwise, out-Otherwise}
 use Rattle.tl_syntax.specs.declared.parsed.Statement.{Statement}
 use Rattle.tl_syntax.specs.declared.parsed.StatementForm.{StatementForm}
 use Rattle.tl_syntax.specs.declared.parsed.StatementForm.TheVariants as S
+use Rattle.tl_syntax.specs.Codes.{code_of}
 use Rattle.tl_syntax.specs.Grammar.{kind_at, offset_at, Stands, IsName, IsExpression, Disjunction}
 
 -- the words that may also be used as names have the first symbols
@@ -95,6 +99,21 @@ pub data AreGiven (tokens : List Token) (levels : ℕ) : ℕ → ℕ → List Ex
   none_given : {i j : ℕ} → Stands tokens K.RightParenthesis i j → AreGiven tokens levels i j []
   some_given : {i j k : ℕ} {es : List Expression} → AreExpressions tokens levels i j es → Stands tokens K.RightParenthesis j k → AreGiven tokens levels i k es
 
+-- whether it is a number or a name
+abbrev pub names_code : Form → Bool
+names_code (F.Number n) = true
+names_code (F.Named name) = true
+names_code form = false
+
+-- the code of a failure: nothing is computed for it
+pub data IsCode (tokens : List Token) (levels : ℕ) : ℕ → ℕ → Expression → Type 0 where
+  code : {i j : ℕ} {e : Expression} → IsExpression tokens levels Disjunction i j e → names_code e.form ≡ true → IsCode tokens levels i j e
+
+-- the code of a condition's failure, behind a colon, if it is given
+pub data IsReason (tokens : List Token) (levels : ℕ) : ℕ → ℕ → Option Expression → Type 0 where
+  no_reason : {i : ℕ} → IsReason tokens levels i i None
+  reason : {i j k : ℕ} {e : Expression} → Stands tokens K.Colon i j → IsCode tokens levels j k e → IsReason tokens levels i k (Some e)
+
 -- a statement without blocks, up to the semicolon or `else` that follows it
 pub data IsAction (tokens : List Token) (levels : ℕ) : ℕ → ℕ → Action → Type 0 where
   lets : {i j k l m : ℕ} {n : Name} {e : Expression} → Stands tokens K.Let i j → IsName tokens j k n → Stands tokens K.Assign k l →
@@ -104,7 +123,8 @@ pub data IsAction (tokens : List Token) (levels : ℕ) : ℕ → ℕ → Action 
   writes : {i j k : ℕ} {w : Write} {others : Vec Write Global} → IsWrite tokens levels i j w → AreMoreWrites tokens levels j k others.items →
       IsAction tokens levels i k (A.Write w others)
   emits : {i j k : ℕ} {es : Vec Expression Global} → Stands tokens K.Emit i j → AreExpressions tokens levels j k es.items → IsAction tokens levels i k (A.Emit es)
-  requires : {i j k : ℕ} {e : Expression} → Stands tokens K.Require i j → IsExpression tokens levels Disjunction j k e → IsAction tokens levels i k (A.Require e)
+  requires : {i j k l : ℕ} {e : Expression} {why : Option Expression} → Stands tokens K.Require i j → IsExpression tokens levels Disjunction j k e →
+      IsReason tokens levels k l why → IsAction tokens levels i l (A.Require e why)
   locks : {i j k : ℕ} {p : Place} → Stands tokens K.Lock i j → IsPlace tokens levels j k p → IsAction tokens levels i k (A.Lock p)
   descends : {i j k l m o : ℕ} {n : Name} {e : Expression} → Stands tokens K.Descend i j → IsName tokens j k n → Stands tokens word_to k l →
       Stands tokens K.Child l m → IsArgument tokens levels m o e → IsAction tokens levels i o (A.Descend n e)
@@ -112,6 +132,7 @@ pub data IsAction (tokens : List Token) (levels : ℕ) : ℕ → ℕ → Action 
       IsName tokens l m from → IsAction tokens levels i m (A.Take n from)
   frees : {i j k : ℕ} {n : Name} → Stands tokens K.Free i j → IsName tokens j k n → IsAction tokens levels i k (A.Free n)
   leaves : {i j : ℕ} {l : Leave} → IsLeave tokens i j l → IsAction tokens levels i j (A.Leave l)
+  fails_with : {i j k : ℕ} {e : Expression} → Stands tokens K.Fail i j → IsCode tokens levels j k e → IsAction tokens levels i k (A.Fail e)
   -- the word `while` before a parenthesis begins a loop
   uses : {i j k l : ℕ} {n : Name} {es : Vec Expression Global} → IsName tokens i j n → K.Name n.symbol ≢ word_while → Stands tokens K.LeftParenthesis j k →
       AreGiven tokens levels k l es.items → IsAction tokens levels i l (A.Use n es)
@@ -121,22 +142,29 @@ abbrev pub allows_else : Action → Bool
 allows_else (A.Take n from) = false
 allows_else (A.Free n) = false
 allows_else (A.Leave l) = false
+allows_else (A.Fail e) = false
 allows_else action = true
+
+-- whether control doesn't go on behind it
+abbrev pub leaves_block : Action → Bool
+leaves_block (A.Leave l) = true
+leaves_block (A.Fail e) = true
+leaves_block action = false
 
 pub data IsQuestion (tokens : List Token) (levels : ℕ) : ℕ → ℕ → Question → Type 0 where
   condition : {i j : ℕ} {e : Expression} → IsExpression tokens levels Disjunction i j e → IsQuestion tokens levels i j (Q.Condition e)
   lock : {i j k : ℕ} {p : Place} → Stands tokens K.Lock i j → IsPlace tokens levels j k p → IsQuestion tokens levels i k (Q.Lock p)
 
--- the name of the index of a loop's child, in parentheses, if it is given
-pub data IsIndex (tokens : List Token) : ℕ → ℕ → Option Name → Type 0 where
-  no_index : {i : ℕ} → IsIndex tokens i i None
-  index : {i j k l : ℕ} {n : Name} → Stands tokens K.LeftParenthesis i j → IsName tokens j k n → Stands tokens K.RightParenthesis k l →
-      IsIndex tokens i l (Some n)
+-- a name in parentheses, if it is given: of the index of a loop's child, or of a failure's code
+pub data IsOptionalName (tokens : List Token) : ℕ → ℕ → Option Name → Type 0 where
+  no_name : {i : ℕ} → IsOptionalName tokens i i None
+  some_name : {i j k l : ℕ} {n : Name} → Stands tokens K.LeftParenthesis i j → IsName tokens j k n → Stands tokens K.RightParenthesis k l →
+      IsOptionalName tokens i l (Some n)
 
--- `break;`, `return;` or `fail;` as the only statement of an `else`
-pub data IsLeaving (tokens : List Token) : ℕ → ℕ → List Statement → Type 0 where
-  leaving : {i j k : ℕ} {l : Leave} {s : Statement} → IsLeave tokens i j l → Stands tokens K.Semicolon j k → s.form ≡ S.Act (A.Leave l) None →
-      s.offset ≡ offset_at tokens i → IsLeaving tokens i k (s ∷ [])
+-- `break;`, `return;` or `fail;`, with or without a code, as the only statement of an `else`
+pub data IsLeaving (tokens : List Token) (levels : ℕ) : ℕ → ℕ → List Statement → Type 0 where
+  leaving : {i j k : ℕ} {a : Action} {s : Statement} → IsAction tokens levels i j a → leaves_block a ≡ true → Stands tokens K.Semicolon j k → s.form ≡ S.Act a None →
+      s.offset ≡ offset_at tokens i → IsLeaving tokens levels i k (s ∷ [])
 
 -- the only statement, which begins at this offset
 pub data IsOnly (offset : ℕ) (form : StatementForm) : List Statement → Type 0 where
@@ -146,6 +174,32 @@ pub data IsOnly (offset : ℕ) (form : StatementForm) : List Statement → Type 
 pub data AreTwo (offset : ℕ) (first second : StatementForm) : List Statement → Type 0 where
   two : {s t : Statement} → s.form ≡ first → s.offset ≡ offset → t.form ≡ second → t.offset ≡ offset → AreTwo offset first second (s ∷ t ∷ [])
 
+-- how a place can't be locked
+abbrev pub place_failure : Place → Failure
+place_failure (P.Node name offset number) = W.Node
+place_failure (P.Child c) = W.Child
+place_failure (P.Pair a b) = W.Child
+
+-- how a declaration fails, if the action is one
+abbrev pub failure_of : Action → Option Failure
+failure_of (A.Let n e) = Some W.Number
+failure_of (A.Lock p) = Some (place_failure p)
+failure_of action = None
+
+-- a block in which the name has the number of the failure
+pub data IsTold (why : Name) (failure : Failure) (body : Vec Statement Global) (all : List Statement) : Type 0 where
+  told : {e : Expression} → e.form ≡ F.Number (code_of failure) → e.offset ≡ why.offset → AreTwo why.offset (S.Act (A.Let why e) None) (S.Block body) all →
+      IsTold why failure body all
+
+-- An action that begins at this offset, with its `else`. If a name is given for the failure's code, it is the value of this name, where the action declares something: so it may fail in one way. Another action is
+-- the only statement of a `try`.
+pub data IsElsed (offset : ℕ) (a : Action) : Option Name → Otherwise → StatementForm → Type 0 where
+  unnamed : {o : Otherwise} → IsElsed offset a None o (S.Act a (Some o))
+  in_try : {why : Name} {o : Otherwise} (body : Vec Statement Global) → failure_of a ≡ None → IsOnly offset (S.Act a None) body.items →
+      IsElsed offset a (Some why) o (S.Try (Some why) body (out-Otherwise o).body)
+  in_else : {why : Name} {failure : Failure} {o p : Otherwise} → failure_of a ≡ Some failure → IsTold why failure (out-Otherwise o).body (out-Otherwise p).body.items →
+      (out-Otherwise p).offset ≡ (out-Otherwise o).offset → IsElsed offset a (Some why) o (S.Act a (Some p))
+
 -- in each turn the body, or a `break` if the condition doesn't hold
 pub data IsBoundedLoop (offset : ℕ) (condition most : Expression) (body : Vec Statement Global) : StatementForm → Type 0 where
   bounded : (other turn : Vec Statement Global) → IsOnly offset (S.Act (A.Leave L.Break) None) other.items →
@@ -153,8 +207,9 @@ pub data IsBoundedLoop (offset : ℕ) (condition most : Expression) (body : Vec 
 
 -- a statement that fails if the condition holds, which begins at i and ends at the word `at`
 pub data RequiresNot (tokens : List Token) (levels i offset : ℕ) : StatementForm → Type 0 where
-  requires_not : {j k : ℕ} {e : Expression} {a : Box Expression Global} → IsExpression tokens levels Disjunction i j a.value → Stands tokens word_at j k →
-      e.form ≡ F.Not a → e.offset ≡ offset → RequiresNot tokens levels i offset (S.Act (A.Require e) None)
+  requires_not : {j k : ℕ} {e why : Expression} {a : Box Expression Global} → IsExpression tokens levels Disjunction i j a.value → Stands tokens word_at j k →
+      e.form ≡ F.Not a → e.offset ≡ offset → why.form ≡ F.Number (code_of W.Bound) → why.offset ≡ offset →
+      RequiresNot tokens levels i offset (S.Act (A.Require e (Some why)) None)
 
 -- a `while` up to its block: its condition, and how often it turns at most
 pub data IsWhile (tokens : List Token) (levels : ℕ) : ℕ → ℕ → Expression → Expression → Type 0 where
@@ -189,10 +244,10 @@ mutual
 
   pub data IsForm (tokens : List Token) : ℕ → ℕ → ℕ → StatementForm → Type 0 where
     act : {levels i j k : ℕ} {a : Action} → IsAction tokens levels i j a → Stands tokens K.Semicolon j k → IsForm tokens levels i k (S.Act a None)
-    act_else : {levels i j k : ℕ} {a : Action} {o : Otherwise} → IsAction tokens levels i j a → allows_else a ≡ true → IsOtherwise tokens levels j k o →
-        IsForm tokens levels i k (S.Act a (Some o))
-    try : {levels i j k l m : ℕ} (body other : Vec Statement Global) → Stands tokens K.Try i j → IsBlock tokens levels j k body.items → Stands tokens K.Else k l →
-        IsBlock tokens levels l m other.items → IsForm tokens levels i m (S.Try body other)
+    act_else : {levels i j k : ℕ} {a : Action} {why : Option Name} {o : Otherwise} {form : StatementForm} → IsAction tokens levels i j a → allows_else a ≡ true →
+        IsOtherwise tokens levels j k why o → IsElsed (offset_at tokens i) a why o form → IsForm tokens levels i k form
+    try : {levels i j k l m n : ℕ} {why : Option Name} (body other : Vec Statement Global) → Stands tokens K.Try i j → IsBlock tokens levels j k body.items →
+        Stands tokens K.Else k l → IsOptionalName tokens l m why → IsBlock tokens levels m n other.items → IsForm tokens levels i n (S.Try why body other)
     if : {levels i j k l : ℕ} {q : Question} (body other : Vec Statement Global) → Stands tokens K.If i j → IsQuestion tokens levels j k q → IsBlock tokens levels k l body.items →
         other.items ≡ [] → IsForm tokens (suc levels) i l (S.If q body other)
     if_else : {levels i j k l m n : ℕ} {q : Question} (body other : Vec Statement Global) → Stands tokens K.If i j → IsQuestion tokens levels j k q →
@@ -203,7 +258,7 @@ mutual
         IsExpression tokens levels Disjunction j k turns → Stands tokens word_at k l → Stands tokens word_most l m → IsExpression tokens levels Disjunction m n most →
         IsBlock tokens levels n o body.items → IsForm tokens levels i o (S.Repeat turns (Some most) body)
     for_each : {levels i j k l m n o p q r s t : ℕ} {child parent : Name} {place : Option Name} {most : Expression} (body : Vec Statement Global) → Stands tokens K.For i j →
-        Stands tokens word_each j k → Stands tokens K.Child k l → IsName tokens l m child → IsIndex tokens m n place → Stands tokens word_of n o →
+        Stands tokens word_each j k → Stands tokens K.Child k l → IsName tokens l m child → IsOptionalName tokens m n place → Stands tokens word_of n o →
         IsName tokens o p parent → Stands tokens word_at p q → Stands tokens word_most q r → IsExpression tokens levels Disjunction r s most → IsBlock tokens levels s t body.items →
         IsForm tokens levels i t (S.ForEach child place parent most body)
     block_alone : {levels i j : ℕ} (body : Vec Statement Global) → IsBlock tokens levels i j body.items → IsForm tokens levels i j (S.Block body)
@@ -217,14 +272,9 @@ mutual
     other_block : {levels i j : ℕ} {all : List Statement} → IsBlock tokens levels i j all → IsOther tokens levels i j all
     other_if : {levels i j : ℕ} {s : Statement} → kind_at tokens i ≡ K.If → IsStatement tokens levels i j s → IsOther tokens levels i j (s ∷ [])
 
-  -- the offset is that of the word `else`
-  pub data IsOtherwise (tokens : List Token) : ℕ → ℕ → ℕ → Otherwise → Type 0 where
-    block_else : {levels i j k l : ℕ} {o : Otherwise} → Stands tokens K.Else i j → IsBlock tokens levels j k (out-Otherwise o).body.items →
-        MayEnd tokens k l → (out-Otherwise o).offset ≡ offset_at tokens i → IsOtherwise tokens levels i l o
-    leave_else : {levels i j k : ℕ} {o : Otherwise} → Stands tokens K.Else i j → IsLeaving tokens j k (out-Otherwise o).body.items →
-        (out-Otherwise o).offset ≡ offset_at tokens i → IsOtherwise tokens levels i k o
-
--- a semicolon, or the statement's own `else`
-abbrev pub IsTail : List Token → ℕ → ℕ → ℕ → Option Otherwise → Type 0
-IsTail tokens levels i j None = Stands tokens K.Semicolon i j
-IsTail tokens levels i j (Some o) = IsOtherwise tokens levels i j o
+  -- the name that has the failure's code, if it is given, and the block; the offset is that of the word `else`
+  pub data IsOtherwise (tokens : List Token) : ℕ → ℕ → ℕ → Option Name → Otherwise → Type 0 where
+    block_else : {levels i j k l m : ℕ} {why : Option Name} {o : Otherwise} → Stands tokens K.Else i j → IsOptionalName tokens j k why →
+        IsBlock tokens levels k l (out-Otherwise o).body.items → MayEnd tokens l m → (out-Otherwise o).offset ≡ offset_at tokens i → IsOtherwise tokens levels i m why o
+    leave_else : {levels i j k : ℕ} {o : Otherwise} → Stands tokens K.Else i j → IsLeaving tokens levels j k (out-Otherwise o).body.items →
+        (out-Otherwise o).offset ≡ offset_at tokens i → IsOtherwise tokens levels i k None o

@@ -52,6 +52,7 @@ pub data IsShortSign (byte : ℕ) : TokenKind → Type 0 where
   right_brace : byte ≡ 125 → IsShortSign byte K.RightBrace
   comma : byte ≡ 44 → IsShortSign byte K.Comma
   semicolon : byte ≡ 59 → IsShortSign byte K.Semicolon
+  colon : byte ≡ 58 → IsShortSign byte K.Colon
   dot : byte ≡ 46 → IsShortSign byte K.Dot
   assign : byte ≡ 61 → IsShortSign byte K.Assign
   plus : byte ≡ 43 → IsShortSign byte K.Plus

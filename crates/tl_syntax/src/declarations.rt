@@ -102,16 +102,19 @@ impl<'a> Parser<'a> {
                 name,
                 arguments,
                 body,
+                why: None,
                 otherwise: nothing,
             };
             return Ok((procedure, at));
         };
+        let (why, next) = self.optional_name(next)?;
         let (otherwise, after) = self.block(next, MAX_LEVELS)?;
         let procedure = Procedure {
             is_atomic,
             name,
             arguments,
             body,
+            why,
             otherwise,
         };
         Ok((procedure, after))

@@ -15,6 +15,9 @@ pub enum Wrong {
     /// 271: a number that is malformed or too large.
     #[error("this number is malformed or too large")]
     Number,
+    /// 271: a code of more than 32 bits.
+    #[error("the code of a failure has at most 32 bits")]
+    LongCode,
     /// 272: a name of more than 32 characters.
     #[error("this name has more than 32 characters")]
     LongName,
@@ -45,6 +48,9 @@ pub enum Wrong {
     /// 273: a side of `%` that is computed.
     #[error("each side of `%` is a number, a name, a field or `kids` of a node: give this one a name before, by `let`")]
     RestOperand,
+    /// 273: a code that is computed.
+    #[error("the code of a failure is a number, or the name of a constant or a value")]
+    CodeForm,
     /// 274: more than 64 nested levels.
     #[error("more than 64 levels in one another")]
     TooDeep,
@@ -146,17 +152,8 @@ impl Wrong {
     {
         match *self {
             Wrong::Character => 270,
-            Wrong::Number => 271,
+            Wrong::Number | Wrong::LongCode => 271,
             Wrong::LongName => 272,
-            Wrong::Misplaced
-            | Wrong::NoSemicolon
-            | Wrong::NoBlock
-            | Wrong::Unclosed
-            | Wrong::NoElse
-            | Wrong::NoBound
-            | Wrong::PartReturns
-            | Wrong::PartName
-            | Wrong::RestOperand => 273,
             Wrong::TooDeep | Wrong::Blocks | Wrong::PartDepth => 274,
             Wrong::Unknown => 275,
             Wrong::Twice => 276,
@@ -183,6 +180,8 @@ impl Wrong {
             Wrong::Nodes => 292,
             Wrong::LoopDepth => 293,
             Wrong::PartSize | Wrong::Statements => 294,
+            // All that stands where something else has to stand.
+            _ => 273,
         }
     }
 }

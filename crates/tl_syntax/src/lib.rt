@@ -1,8 +1,10 @@
 //! The grammar of the procedure language: from a text to its declarations as they are written, or to the first token that is wrong.
 #![tactic(auto)]
 
+mod actions;
 mod declarations;
 mod expressions;
+mod failure;
 mod fault;
 pub mod laws;
 mod lexer;
@@ -15,6 +17,7 @@ mod syntax;
 mod token;
 mod words;
 
+pub use failure::Failure;
 pub use fault::{SyntaxFault, Wrong};
 pub use operator::Operator;
 pub use position::Position;

@@ -106,7 +106,8 @@ pub enum Action {
     /// A write, and those that follow it: all numbers are computed before the first field is written.
     Write(Write, Vec<Write>),
     Emit(Vec<Expression>),
-    Require(Expression),
+    /// A condition, and the code of the failure where it doesn't hold.
+    Require(Expression, Option<Expression>),
     Lock(Place),
     Descend {
         node: Name,
@@ -118,6 +119,8 @@ pub enum Action {
     },
     Free(Name),
     Leave(Leave),
+    /// A failure with this code.
+    Fail(Expression),
     /// A part, and what it is given here.
     Use {
         part: Name,
@@ -153,7 +156,8 @@ pub struct Statement {
 #[derive(Drop)]
 pub enum StatementForm {
     Act(Action, Option<Otherwise>),
-    Try(Vec<Statement>, Vec<Statement>),
+    /// Where the first block fails, the second one is done. The name, if there is one, has the failure's code there.
+    Try(Option<Name>, Vec<Statement>, Vec<Statement>),
     If(Question, Vec<Statement>, Vec<Statement>),
     Repeat {
         turns: Expression,
@@ -172,13 +176,15 @@ pub enum StatementForm {
     Block(Vec<Statement>),
 }
 
-/// A procedure. One that is marked by `atomic` promises that it has written nothing where it fails.
+/// A procedure. One that is marked by `atomic` promises that it has written nothing where it fails. In its `else` the name `why`, if it
+/// is given, has the failure's code.
 #[derive(Drop)]
 pub struct Procedure {
     pub is_atomic: bool,
     pub name: Name,
     pub arguments: Vec<Name>,
     pub body: Vec<Statement>,
+    pub why: Option<Name>,
     pub otherwise: Vec<Statement>,
 }
 

@@ -1,39 +1,35 @@
-// Statements: each function reads one rule of the grammar. `levels` says how many levels may still be opened.
+// Statements with blocks, and how a statement ends: each function reads one rule of the grammar. `levels` says how many levels may still be opened.
 
-ghost use Rattle.std.specs.Prelude.{◌≡◌, IfOk, IfSome};
+ghost use Rattle.std.specs.Prelude.{◌≡◌, true, IfOk};
 ghost use Rattle.tl_syntax.specs.Grammar.{IsExpression, Disjunction, Stands};
 ghost use Rattle.tl_syntax.specs.Statements.{
-  IsLeave,
-  IsChange,
-  IsArgument,
-  IsChild,
-  IsPlace,
-  AreExpressions,
-  IsWrite,
-  AreMoreWrites,
-  AreGiven,
   IsAction,
   IsQuestion,
-  IsIndex,
+  IsOptionalName,
+  IsTold,
+  IsElsed,
+  place_failure,
+  failure_of,
   allows_else,
   IsBlock,
   IsStatement,
   IsForm,
-  IsTail,
   IsLeaving,
   IsOnly,
+  AreTwo,
   IsBoundedLoop,
   RequiresNot,
   IsWhile,
   IsLooped,
   MayEnd,
   IsOther,
+  IsOtherwise,
 };
 
-use crate::fault::{SyntaxFault, Wrong};
+use crate::failure::Failure;
+use crate::fault::SyntaxFault;
 use crate::parsed::{
-    Action, Change, Child, Expression, Form, Leave, Name, Otherwise, Place, Question, Statement,
-    StatementForm, Write,
+    Action, Expression, Form, Leave, Name, Otherwise, Place, Question, Statement, StatementForm,
 };
 use crate::parser::{Parsed, Parser};
 use crate::token::{Symbol, TokenKind};
@@ -44,257 +40,32 @@ fn may_have_else(action: &Action) -> bool
 {
     !matches!(
         *action,
-        Action::Take { .. } | Action::Free(_) | Action::Leave(_)
+        Action::Take { .. } | Action::Free(_) | Action::Leave(_) | Action::Fail(_)
     )
 }
 
+// How a place can't be locked.
+fn lock_failure(place: &Place) -> Failure
+    ensures { result ≡ place_failure place.now }
+{
+    match place {
+        Place::Node { .. } => Failure::Node,
+        Place::Child(_) | Place::Pair(_, _) => Failure::Child,
+    }
+}
+
+// How a declaration fails, if the action is one.
+fn declaration_failure(action: &Action) -> Option<Failure>
+    ensures { result ≡ failure_of action.now }
+{
+    match action {
+        Action::Let { .. } => Some(Failure::Number),
+        Action::Lock(place) => Some(lock_failure(place)),
+        _ => None,
+    }
+}
+
 impl<'a> Parser<'a> {
-    fn leave(&self, at: usize) -> Option<(Leave, usize)>
-        ensures { IfSome result (λ read. IsLeave self.now.tokens.now at read.1 read.0) }
-    {
-        let next = self.behind(at);
-        match self.kind(at) {
-            TokenKind::Break => Some((Leave::Break, next)),
-            TokenKind::Return => Some((Leave::Return, next)),
-            TokenKind::Fail => Some((Leave::Fail, next)),
-            _ => None,
-        }
-    }
-
-    fn change(&self, at: usize) -> Parsed<Change>
-        ensures { IfOk result (λ read. IsChange self.now.tokens.now at read.1 read.0) }
-    {
-        let next = self.behind(at);
-        match self.kind(at) {
-            TokenKind::Assign => Ok((Change::Set, next)),
-            TokenKind::AddAssign => Ok((Change::Add, next)),
-            TokenKind::SubtractAssign => Ok((Change::Subtract, next)),
-            _ => Err(self.misplaced(at)),
-        }
-    }
-
-    fn let_action(&self, at: usize, levels: u32) -> Parsed<Action>
-        ensures { IfOk result (λ read. IsAction self.now.tokens.now levels at read.1 read.0) }
-    {
-        let at = self.skip(at, TokenKind::Let)?;
-        let (name, at) = self.name(at)?;
-        let at = self.skip(at, TokenKind::Assign)?;
-        let (value, at) = self.expression(at, levels)?;
-        Ok((Action::Let { name, value }, at))
-    }
-
-    // An assignment to a value.
-    fn assign(&self, at: usize, levels: u32) -> Parsed<Action>
-        ensures { IfOk result (λ read. IsAction self.now.tokens.now levels at read.1 read.0) }
-    {
-        let (name, at) = self.name(at)?;
-        let (change, at) = self.change(at)?;
-        let (value, at) = self.expression(at, levels)?;
-        let action = Action::Assign {
-            name,
-            change,
-            value,
-        };
-        Ok((action, at))
-    }
-
-    // A write of a field.
-    fn write(&self, at: usize, levels: u32) -> Parsed<Write>
-        ensures { IfOk result (λ read. IsWrite self.now.tokens.now levels at read.1 read.0) }
-    {
-        let (node, at) = self.name(at)?;
-        let at = self.skip(at, TokenKind::Dot)?;
-        let (field, at) = self.name(at)?;
-        let (change, at) = self.change(at)?;
-        let (value, at) = self.expression(at, levels)?;
-        let write = Write {
-            node,
-            field,
-            change,
-            value,
-        };
-        Ok((write, at))
-    }
-
-    // The writes that follow the first one, each behind a comma.
-    fn more_writes(&self, at: usize, levels: u32) -> Parsed<Vec<Write>>
-        ensures { IfOk result (λ read. AreMoreWrites self.now.tokens.now levels at read.1 read.0.items) }
-    {
-        let mut writes = Vec::new(self.alloc);
-        let mut next = at;
-        for _ in 0..self.tokens.len() {
-            let Some(behind) = self.skip_if(next, TokenKind::Comma) else {
-                break;
-            };
-            let (write, after) = self.write(behind, levels)?;
-            writes.push(write)?;
-            next = after;
-        }
-        Ok((writes, next))
-    }
-
-    // What begins with a name: a part that is used, writes of fields, or an assignment to a value.
-    fn named_action(&self, at: usize, levels: u32) -> Parsed<Action>
-        ensures { IfOk result (λ read. IsAction self.now.tokens.now levels at read.1 read.0) }
-    {
-        match self.kind(self.behind(at)) {
-            TokenKind::LeftParenthesis => self.using(at, levels),
-            TokenKind::Dot => {
-                let (first, at) = self.write(at, levels)?;
-                let (others, at) = self.more_writes(at, levels)?;
-                Ok((Action::Write(first, others), at))
-            }
-            _ => self.assign(at, levels),
-        }
-    }
-
-    // One expression or more, with commas between them.
-    fn values(&self, at: usize, levels: u32) -> Parsed<Vec<Expression>>
-        ensures { IfOk result (λ read. AreExpressions self.now.tokens.now levels at read.1 read.0.items) }
-    {
-        let mut values = Vec::new(self.alloc);
-        let (value, mut next) = self.expression(at, levels)?;
-        values.push(value)?;
-        for _ in 0..self.tokens.len() {
-            let Some(behind) = self.skip_if(next, TokenKind::Comma) else {
-                break;
-            };
-            let (value, after) = self.expression(behind, levels)?;
-            values.push(value)?;
-            next = after;
-        }
-        Ok((values, next))
-    }
-
-    // What a part is given, and the closing parenthesis.
-    fn given(&self, at: usize, levels: u32) -> Parsed<Vec<Expression>>
-        ensures { IfOk result (λ read. AreGiven self.now.tokens.now levels at read.1 read.0.items) }
-    {
-        if let Some(after) = self.skip_if(at, TokenKind::RightParenthesis) {
-            return Ok((Vec::new(self.alloc), after));
-        }
-        let (values, at) = self.values(at, levels)?;
-        let at = self.skip(at, TokenKind::RightParenthesis)?;
-        Ok((values, at))
-    }
-
-    // A part where it is used. The word `while` before a parenthesis begins a loop.
-    fn using(&self, at: usize, levels: u32) -> Parsed<Action>
-        ensures { IfOk result (λ read. IsAction self.now.tokens.now levels at read.1 read.0) }
-    {
-        let (part, next) = self.name(at)?;
-        if part.symbol == Symbol::WHILE {
-            return Err(self.misplaced(at));
-        }
-        let next = self.skip(next, TokenKind::LeftParenthesis)?;
-        let (arguments, after) = self.given(next, levels)?;
-        Ok((Action::Use { part, arguments }, after))
-    }
-
-    // A number in parentheses.
-    fn argument(&self, at: usize, levels: u32) -> Parsed<Expression>
-        ensures { IfOk result (λ read. IsArgument self.now.tokens.now levels at read.1 read.0) }
-    {
-        let at = self.skip(at, TokenKind::LeftParenthesis)?;
-        let (number, at) = self.expression(at, levels)?;
-        let at = self.skip(at, TokenKind::RightParenthesis)?;
-        Ok((number, at))
-    }
-
-    // The child that a name is to own, after the name and its sign.
-    fn child(&self, name: Name, at: usize, levels: u32) -> Parsed<Child>
-        ensures read { IfOk result (λ read. IsChild self.now.tokens.now levels at read.1 read.0) }
-        ensures name { IfOk result (λ read. read.0.name ≡ name) }
-    {
-        let at = self.skip(at, TokenKind::Child)?;
-        let at = self.skip(at, TokenKind::LeftParenthesis)?;
-        let (parent, at) = self.name(at)?;
-        let at = self.skip(at, TokenKind::Comma)?;
-        let (number, at) = self.expression(at, levels)?;
-        let at = self.skip(at, TokenKind::RightParenthesis)?;
-        let child = Child {
-            name,
-            parent,
-            number,
-        };
-        Ok((child, at))
-    }
-
-    fn place(&self, at: usize, levels: u32) -> Parsed<Place>
-        ensures { IfOk result (λ read. IsPlace self.now.tokens.now levels at read.1 read.0) }
-    {
-        let (name, at) = self.name(at)?;
-        let at = self.skip(at, TokenKind::Assign)?;
-        if let Some(next) = self.skip_if(at, TokenKind::Node) {
-            let offset = self.offset(at);
-            let (number, at) = self.argument(next, levels)?;
-            let place = Place::Node {
-                name,
-                offset,
-                number,
-            };
-            return Ok((place, at));
-        }
-        let (first, at) = self.child(name, at, levels)?;
-        let Some(next) = self.skip_if(at, TokenKind::Comma) else {
-            return Ok((Place::Child(first), at));
-        };
-        let (name, at) = self.name(next)?;
-        let at = self.skip(at, TokenKind::Assign)?;
-        let (second, at) = self.child(name, at, levels)?;
-        Ok((Place::Pair(first, second), at))
-    }
-
-    // A descent to a child, or a move to the node of another name.
-    fn descent(&self, at: usize, levels: u32) -> Parsed<Action>
-        ensures { IfOk result (λ read. IsAction self.now.tokens.now levels at read.1 read.0) }
-    {
-        let at = self.skip(at, TokenKind::Descend)?;
-        let (node, at) = self.name(at)?;
-        let at = self.skip_word(at, Symbol::TO)?;
-        let Some(next) = self.skip_if(at, TokenKind::Child) else {
-            let (from, at) = self.name(at)?;
-            return Ok((Action::Take { node, from }, at));
-        };
-        let (number, at) = self.argument(next, levels)?;
-        Ok((Action::Descend { node, number }, at))
-    }
-
-    // A statement without blocks of its own, up to the token that ends it.
-    fn action(&self, at: usize, levels: u32) -> Parsed<Action>
-        ensures { IfOk result (λ read. IsAction self.now.tokens.now levels at read.1 read.0) }
-    {
-        match self.kind(at) {
-            TokenKind::Let => self.let_action(at, levels),
-            TokenKind::Name(_) => self.named_action(at, levels),
-            TokenKind::Emit => {
-                let at = self.skip(at, TokenKind::Emit)?;
-                let (values, at) = self.values(at, levels)?;
-                Ok((Action::Emit(values), at))
-            }
-            TokenKind::Require => {
-                let at = self.skip(at, TokenKind::Require)?;
-                let (condition, at) = self.expression(at, levels)?;
-                Ok((Action::Require(condition), at))
-            }
-            TokenKind::Lock => {
-                let at = self.skip(at, TokenKind::Lock)?;
-                let (place, at) = self.place(at, levels)?;
-                Ok((Action::Lock(place), at))
-            }
-            TokenKind::Free => {
-                let at = self.skip(at, TokenKind::Free)?;
-                let (node, at) = self.name(at)?;
-                Ok((Action::Free(node), at))
-            }
-            TokenKind::Descend => self.descent(at, levels),
-            _ => match self.leave(at) {
-                Some((leave, next)) => Ok((Action::Leave(leave), next)),
-                None => Err(self.misplaced(at)),
-            },
-        }
-    }
-
     // A statement alone.
     fn only(&self, offset: usize, form: StatementForm) -> Result<Vec<Statement>, SyntaxFault>
         ensures { IfOk result (λ all. IsOnly offset form all.items) }
@@ -305,15 +76,88 @@ impl<'a> Parser<'a> {
     }
 
     // `break;`, `return;` or `fail;` as the only statement of an `else`.
-    fn leaving(&self, at: usize) -> Parsed<Vec<Statement>>
-        ensures { IfOk result (λ read. IsLeaving self.now.tokens.now at read.1 read.0.items) }
+    fn leaving(&self, at: usize, levels: u32) -> Parsed<Vec<Statement>>
+        ensures { IfOk result (λ read. IsLeaving self.now.tokens.now levels at read.1 read.0.items) }
     {
-        let Some((leave, next)) = self.leave(at) else {
-            return Err(self.misplaced(at));
-        };
+        let (action, next) = self.way_out(at, levels)?;
         let after = self.skip(next, TokenKind::Semicolon)?;
-        let form = StatementForm::Act(Action::Leave(leave), None);
+        let form = StatementForm::Act(action, None);
         Ok((self.only(self.offset(at), form)?, after))
+    }
+
+    // Two statements that begin at one place.
+    fn two(
+        &self,
+        offset: usize,
+        first: StatementForm,
+        second: StatementForm,
+    ) -> Result<Vec<Statement>, SyntaxFault>
+        ensures { IfOk result (λ all. AreTwo offset first second all.items) }
+    {
+        let mut all = self.only(offset, first)?;
+        all.push(Statement {
+            offset,
+            form: second,
+        })?;
+        Ok(all)
+    }
+
+    // The name has the number of the failure in the body.
+    fn told(
+        &self,
+        why: Name,
+        failure: Failure,
+        body: Vec<Statement>,
+    ) -> Result<Vec<Statement>, SyntaxFault>
+        ensures { IfOk result (λ all. IsTold why failure body all.items) }
+    {
+        let offset = why.offset;
+        let form = Form::Number(i64::from(failure.code()));
+        let value = Expression { offset, form };
+        let name = StatementForm::Act(Action::Let { name: why, value }, None);
+        self.two(offset, name, StatementForm::Block(body))
+    }
+
+    // An action that begins at the offset, with its `else`. With a name for the failure's code, which is known of a declaration, an
+    // action is the only statement of a `try`.
+    fn handled(
+        &self,
+        offset: usize,
+        action: Action,
+        why: Option<Name>,
+        otherwise: Otherwise,
+    ) -> Result<StatementForm, SyntaxFault>
+        ensures { IfOk result (IsElsed offset action why otherwise) }
+    {
+        let Some(name) = why else {
+            return Ok(StatementForm::Act(action, Some(otherwise)));
+        };
+        let Otherwise {
+            offset: place,
+            body,
+        } = otherwise;
+        let Some(failure) = declaration_failure(&action) else {
+            let attempt = self.only(offset, StatementForm::Act(action, None))?;
+            return Ok(StatementForm::Try(why, attempt, body));
+        };
+        let body = self.told(name, failure, body)?;
+        let otherwise = Otherwise {
+            offset: place,
+            body,
+        };
+        Ok(StatementForm::Act(action, Some(otherwise)))
+    }
+
+    // A name in parentheses, if a parenthesis stands here.
+    pub fn optional_name(&self, at: usize) -> Parsed<Option<Name>>
+        ensures { IfOk result (λ read. IsOptionalName self.now.tokens.now at read.1 read.0) }
+    {
+        let Some(next) = self.skip_if(at, TokenKind::LeftParenthesis) else {
+            return Ok((None, at));
+        };
+        let (name, at) = self.name(next)?;
+        let at = self.skip(at, TokenKind::RightParenthesis)?;
+        Ok((Some(name), at))
     }
 
     /// A block, which opens a level.
@@ -378,35 +222,54 @@ impl<'a> Parser<'a> {
     fn act(&self, at: usize, levels: u32) -> Parsed<StatementForm>
         ensures { IfOk result (λ read. IsForm self.now.tokens.now levels at read.1 read.0) }
     {
-        let (action, at) = self.action(at, levels)?;
+        let (action, next) = self.action(at, levels)?;
         if may_have_else(&action) {
-            let (otherwise, at) = self.tail(at, levels)?;
-            return Ok((StatementForm::Act(action, otherwise), at));
+            return self.ended(at, action, next, levels);
         }
-        let at = self.skip(at, TokenKind::Semicolon)?;
-        Ok((StatementForm::Act(action, None), at))
+        let after = self.skip(next, TokenKind::Semicolon)?;
+        Ok((StatementForm::Act(action, None), after))
     }
 
-    // The end of a statement: a semicolon, or an `else` of its own.
+    // An action that begins at `begin` and may have an `else`, up to its end.
     #[cycle(statements)]
-    fn tail(&self, at: usize, levels: u32) -> Parsed<Option<Otherwise>>
-        ensures { IfOk result (λ read. IsTail self.now.tokens.now levels at read.1 read.0) }
+    fn ended(&self, begin: usize, action: Action, at: usize, levels: u32) -> Parsed<StatementForm>
+        requires read { IsAction self.now.tokens.now levels begin at action }
+        requires allowed { allows_else action ≡ true }
+        ensures { IfOk result (λ read. IsForm self.now.tokens.now levels begin read.1 read.0) }
     {
-        if let Some(next) = self.skip_if(at, TokenKind::Semicolon) {
-            return Ok((None, next));
+        let offset = self.offset(begin);
+        if self.kind(at) == TokenKind::Else {
+            let ((why, otherwise), after) = self.otherwise(at, levels)?;
+            let form = self.handled(offset, action, why, otherwise)?;
+            return Ok((form, after));
         }
-        if self.kind(at) != TokenKind::Else {
-            return Err(SyntaxFault::at(Wrong::NoSemicolon, self.offset(at)));
-        }
+        let after = self.skip(at, TokenKind::Semicolon)?;
+        Ok((StatementForm::Act(action, None), after))
+    }
+
+    // The `else` of a statement, and the name that has the failure's code in it.
+    #[cycle(statements)]
+    fn otherwise(&self, at: usize, levels: u32) -> Parsed<(Option<Name>, Otherwise)>
+        ensures { IfOk result (λ read. IsOtherwise self.now.tokens.now levels at read.1 read.0.0 read.0.1) }
+    {
         let next = self.skip(at, TokenKind::Else)?;
         let offset = self.offset(at);
-        if self.kind(next) == TokenKind::LeftBrace {
+        if self.begins_block(next) {
+            let (why, next) = self.optional_name(next)?;
             let (body, after) = self.block(next, levels)?;
             let after = self.may_end(after);
-            return Ok((Some(Otherwise { offset, body }), after));
+            return Ok(((why, Otherwise { offset, body }), after));
         }
-        let (body, after) = self.leaving(next)?;
-        Ok((Some(Otherwise { offset, body }), after))
+        let (body, after) = self.leaving(next, levels)?;
+        Ok(((None, Otherwise { offset, body }), after))
+    }
+
+    // Whether a block stands here, or a name in parentheses.
+    fn begins_block(&self, at: usize) -> bool {
+        matches!(
+            self.kind(at),
+            TokenKind::LeftBrace | TokenKind::LeftParenthesis
+        )
     }
 
     #[cycle(statements)]
@@ -416,8 +279,9 @@ impl<'a> Parser<'a> {
         let at = self.skip(at, TokenKind::Try)?;
         let (body, at) = self.block(at, levels)?;
         let at = self.skip(at, TokenKind::Else)?;
+        let (why, at) = self.optional_name(at)?;
         let (otherwise, at) = self.block(at, levels)?;
-        Ok((StatementForm::Try(body, otherwise), at))
+        Ok((StatementForm::Try(why, body, otherwise), at))
     }
 
     fn question(&self, at: usize, levels: u32) -> Parsed<Question>
@@ -532,7 +396,9 @@ impl<'a> Parser<'a> {
         let boxed = Box::new(self.alloc, condition)?;
         let form = Form::Not(boxed);
         let negation = Expression { offset, form };
-        Ok(StatementForm::Act(Action::Require(negation), None))
+        let form = Form::Number(i64::from(Failure::Bound.code()));
+        let code = Expression { offset, form };
+        Ok(StatementForm::Act(Action::Require(negation, Some(code)), None))
     }
 
     // The condition of a `while`, and how often it turns at most.
@@ -560,12 +426,7 @@ impl<'a> Parser<'a> {
         let (condition, count) = head;
         let repetition = self.bounded_loop(offset, condition, count, body)?;
         let check = self.requires_not(at, levels, offset)?;
-        let mut all = self.only(offset, repetition)?;
-        all.push(Statement {
-            offset,
-            form: check,
-        })?;
-        Ok(all)
+        self.two(offset, repetition, check)
     }
 
     // A `while`, which opens a level.
@@ -582,18 +443,6 @@ impl<'a> Parser<'a> {
         Ok((StatementForm::Block(all), after))
     }
 
-    // The name of a child's place, in parentheses, if it has one.
-    fn index(&self, at: usize) -> Parsed<Option<Name>>
-        ensures { IfOk result (λ read. IsIndex self.now.tokens.now at read.1 read.0) }
-    {
-        let Some(next) = self.skip_if(at, TokenKind::LeftParenthesis) else {
-            return Ok((None, at));
-        };
-        let (name, at) = self.name(next)?;
-        let at = self.skip(at, TokenKind::RightParenthesis)?;
-        Ok((Some(name), at))
-    }
-
     #[cycle(statements)]
     fn visit(&self, at: usize, levels: u32) -> Parsed<StatementForm>
         ensures { IfOk result (λ read. IsForm self.now.tokens.now levels at read.1 read.0) }
@@ -602,7 +451,7 @@ impl<'a> Parser<'a> {
         let at = self.skip_word(at, Symbol::EACH)?;
         let at = self.skip(at, TokenKind::Child)?;
         let (child, at) = self.name(at)?;
-        let (index, at) = self.index(at)?;
+        let (index, at) = self.optional_name(at)?;
         let at = self.skip_word(at, Symbol::OF)?;
         let (parent, at) = self.name(at)?;
         let at = self.skip_word(at, Symbol::AT)?;

@@ -59,6 +59,7 @@ pub enum TokenKind {
     RightBrace,
     Comma,
     Semicolon,
+    Colon,
     Dot,
     Assign,
     AddAssign,

@@ -102,6 +102,7 @@ pub fn short_sign(byte: u8) -> Option<TokenKind>
         b'}' => Some(TokenKind::RightBrace),
         b',' => Some(TokenKind::Comma),
         b';' => Some(TokenKind::Semicolon),
+        b':' => Some(TokenKind::Colon),
         b'.' => Some(TokenKind::Dot),
         b'=' => Some(TokenKind::Assign),
         b'+' => Some(TokenKind::Plus),

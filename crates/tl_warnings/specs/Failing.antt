@@ -62,12 +62,13 @@ pub data ActionFails : Action → Bool → Type 0 where
   assigns : {name : Name} {change : Change} {e : Expression} {r : Bool} → ChangeFails change e r → ActionFails (A.Assign name change e) r
   writes : {w : Write} {ws : Vec Write Global} {r s : Bool} → ChangeFails w.change w.value r → WritesFail ws.items s → ActionFails (A.Write w ws) (r || s)
   emits : {es : Vec Expression Global} {r : Bool} → AnyFails es.items r → ActionFails (A.Emit es) r
-  requires : {e : Expression} → ActionFails (A.Require e) true
+  requires : {e : Expression} {why : Option Expression} → ActionFails (A.Require e why) true
   locks : {p : Place} → ActionFails (A.Lock p) true
   descends : {name : Name} {e : Expression} → ActionFails (A.Descend name e) true
   takes : {name from : Name} → ActionFails (A.Take name from) false
   frees : {name : Name} → ActionFails (A.Free name) false
   leaves : {leave : Leave} → ActionFails (A.Leave leave) (is_fail leave)
+  fails_with : {e : Expression} → ActionFails (A.Fail e) true
   -- any part may
   uses : {name : Name} {es : Vec Expression Global} → ActionFails (A.Use name es) true
 
@@ -84,7 +85,7 @@ mutual
   -- where something handles a failure, only this may fail then
   pub data StatementFails : StatementForm → Bool → Type 0 where
     act : {a : Action} {o : Option Otherwise} {r s : Bool} → ActionFails a r → ElseFails o s → StatementFails (T.Act a o) (r && s)
-    try : (xs ys : Vec Statement Global) {r s : Bool} → BlockFails xs.items r → BlockFails ys.items s → StatementFails (T.Try xs ys) (r && s)
+    try : {why : Option Name} (xs ys : Vec Statement Global) {r s : Bool} → BlockFails xs.items r → BlockFails ys.items s → StatementFails (T.Try why xs ys) (r && s)
     if : {q : Question} (xs ys : Vec Statement Global) {r s t : Bool} → QuestionFails q r → BlockFails xs.items s → BlockFails ys.items t →
         StatementFails (T.If q xs ys) (r || (s || t))
     -- the turns may be more than the bound

@@ -63,12 +63,13 @@ pub data LockedWarns (rest : List Statement) (ws : List Warning) : Action → Li
   assigns : {name : Name} {change : Change} {e : Expression} → LockedWarns rest ws (A.Assign name change e) ws
   writes : {w : Write} {xs : Vec Write Global} → LockedWarns rest ws (A.Write w xs) ws
   emits : {es : Vec Expression Global} → LockedWarns rest ws (A.Emit es) ws
-  requires : {e : Expression} → LockedWarns rest ws (A.Require e) ws
+  requires : {e : Expression} {why : Option Expression} → LockedWarns rest ws (A.Require e why) ws
   locks : {p : Place} {us : List Warning} → PlaceWarns rest ws p us → LockedWarns rest ws (A.Lock p) us
   descends : {name : Name} {e : Expression} → LockedWarns rest ws (A.Descend name e) ws
   takes : {name from : Name} → LockedWarns rest ws (A.Take name from) ws
   frees : {name : Name} → LockedWarns rest ws (A.Free name) ws
   leaves : {leave : Leave} → LockedWarns rest ws (A.Leave leave) ws
+  fails_with : {e : Expression} → LockedWarns rest ws (A.Fail e) ws
   uses : {name : Name} {es : Vec Expression Global} → LockedWarns rest ws (A.Use name es) ws
 
 -- the nodes that an `if` locks for its first block
@@ -86,8 +87,9 @@ mutual
   pub data StatementWarns : ℕ → StatementForm → List Statement → List Warning → List Warning → Type 0 where
     act : {offset : ℕ} {a : Action} {o : Option Otherwise} {rest : List Statement} {r : Bool} {ws vs us ts : List Warning} →
         NamedWarns rest ws (declared a) vs → LockedWarns rest vs a us → ActionFails a r → ElseWarns r o us ts → StatementWarns offset (T.Act a o) rest ws ts
-    try : {offset : ℕ} (xs ys : Vec Statement Global) {rest : List Statement} {r : Bool} {ws vs us : List Warning} →
-        BlockFails xs.items r → BlockWarns xs.items (unless r N.Try offset ws) vs → BlockWarns ys.items vs us → StatementWarns offset (T.Try xs ys) rest ws us
+    try : {offset : ℕ} {why : Option Name} (xs ys : Vec Statement Global) {rest : List Statement} {r : Bool} {ws vs us ts : List Warning} →
+        BlockFails xs.items r → BlockWarns xs.items (unless r N.Try offset ws) vs → NamedWarns ys.items vs why us → BlockWarns ys.items us ts →
+        StatementWarns offset (T.Try why xs ys) rest ws ts
     if : {offset : ℕ} {q : Question} (xs ys : Vec Statement Global) {rest : List Statement} {ws vs us ts : List Warning} →
         AskedWarns xs.items ws q vs → BlockWarns xs.items vs us → BlockWarns ys.items us ts → StatementWarns offset (T.If q xs ys) rest ws ts
     repeat : {offset : ℕ} {turns : Expression} {most : Option Expression} (xs : Vec Statement Global) {rest : List Statement} {ws vs : List Warning} →
@@ -122,10 +124,12 @@ pub record ProcedureWarns (p : Procedure) (ws us : List Warning) : Type 0 where
   pub may_fail : Bool
   pub behind_arguments : List Warning
   pub behind_body : List Warning
+  pub behind_why : List Warning
   pub arguments : ArgumentsWarn p ws p.arguments.items behind_arguments
   pub body : BlockWarns p.body.items behind_arguments behind_body
   pub fails : BlockFails p.body.items may_fail
-  pub otherwise : BlockWarns p.otherwise.items (else_warned may_fail p.otherwise.items behind_body) us
+  pub why : NamedWarns p.otherwise.items behind_body p.why behind_why
+  pub otherwise : BlockWarns p.otherwise.items (else_warned may_fail p.otherwise.items behind_why) us
 
 -- a name for what a part is given; a node that nothing uses is given all the same
 pub data ParameterWarns (p : Part) (ws : List Warning) : Parameter → List Warning → Type 0 where

@@ -30,12 +30,13 @@ pub data ActionLocks (x : ℕ) : Action → Bool → Type 0 where
   assigns : {name : Name} {change : Change} {e : Expression} → ActionLocks x (A.Assign name change e) false
   writes : {w : Write} {ws : Vec Write Global} → ActionLocks x (A.Write w ws) false
   emits : {es : Vec Expression Global} → ActionLocks x (A.Emit es) false
-  requires : {e : Expression} → ActionLocks x (A.Require e) false
+  requires : {e : Expression} {why : Option Expression} → ActionLocks x (A.Require e why) false
   locks : {p : Place} → ActionLocks x (A.Lock p) (place_locks x p)
   descends : {name : Name} {e : Expression} → ActionLocks x (A.Descend name e) false
   takes : {name from : Name} → ActionLocks x (A.Take name from) false
   frees : {name : Name} → ActionLocks x (A.Free name) false
   leaves : {leave : Leave} → ActionLocks x (A.Leave leave) false
+  fails_with : {e : Expression} → ActionLocks x (A.Fail e) false
   -- a part that is given the node may
   uses : {name : Name} {es : Vec Expression Global} {r : Bool} → AnyReads x es.items r → ActionLocks x (A.Use name es) r
 
@@ -50,7 +51,7 @@ mutual
 
   pub data StatementLocks (x : ℕ) : StatementForm → Bool → Type 0 where
     act : {a : Action} {o : Option Otherwise} {r s : Bool} → ActionLocks x a r → ElseLocks x o s → StatementLocks x (T.Act a o) (r || s)
-    try : (xs ys : Vec Statement Global) {r s : Bool} → BlockLocks x xs.items r → BlockLocks x ys.items s → StatementLocks x (T.Try xs ys) (r || s)
+    try : {why : Option Name} (xs ys : Vec Statement Global) {r s : Bool} → BlockLocks x xs.items r → BlockLocks x ys.items s → StatementLocks x (T.Try why xs ys) (r || s)
     if : {q : Question} (xs ys : Vec Statement Global) {s t : Bool} → BlockLocks x xs.items s → BlockLocks x ys.items t →
         StatementLocks x (T.If q xs ys) (question_locks x q || (s || t))
     repeat : {turns : Expression} {most : Option Expression} (xs : Vec Statement Global) {r : Bool} → BlockLocks x xs.items r → StatementLocks x (T.Repeat turns most xs) r

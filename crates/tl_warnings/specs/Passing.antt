@@ -26,6 +26,7 @@ abbrev pub behind_action : ℕ → Action → Bool → Bool → Option Bool
 behind_action x (A.Descend name e) r b = Some (b && not (nat_eq name.symbol.0 x))
 behind_action x (A.Take name from) r b = Some (b && not (nat_eq name.symbol.0 x))
 behind_action x (A.Leave leave) r b = None
+behind_action x (A.Fail e) r b = None
 behind_action x a r b = Some (b || r)
 
 mutual
@@ -40,8 +41,8 @@ mutual
   pub data StatementPasses (x : ℕ) : Bool → StatementForm → Option Bool → Type 0 where
     act : {a : Action} {o : Option Otherwise} {b r : Bool} {p : Option Bool} → ActionLocks x a r → ElsePasses x (b || r) o p →
         StatementPasses x b (T.Act a o) (or_of (behind_action x a r b) p)
-    try : (xs ys : Vec Statement Global) {b r : Bool} {p q : Option Bool} → BlockLocks x xs.items r → BlockPasses x b xs.items p → BlockPasses x (b || r) ys.items q →
-        StatementPasses x b (T.Try xs ys) (or_of p q)
+    try : {why : Option Name} (xs ys : Vec Statement Global) {b r : Bool} {p q : Option Bool} → BlockLocks x xs.items r → BlockPasses x b xs.items p → BlockPasses x (b || r) ys.items q →
+        StatementPasses x b (T.Try why xs ys) (or_of p q)
     if : {question : Question} (xs ys : Vec Statement Global) {b : Bool} {p q : Option Bool} → BlockPasses x (b || question_locks x question) xs.items p →
         BlockPasses x b ys.items q → StatementPasses x b (T.If question xs ys) (or_of p q)
     repeat : {turns : Expression} {most : Option Expression} (xs : Vec Statement Global) {b r : Bool} → BlockLocks x xs.items r →

@@ -63,17 +63,23 @@ changes H.Set name x = false
 changes H.Add name x = nat_eq name.symbol.0 x
 changes H.Subtract name x = nat_eq name.symbol.0 x
 
+-- the code of a condition's failure, if it has one
+pub data ReasonReads (x : ℕ) : Option Expression → Bool → Type 0 where
+  no_reason : ReasonReads x None false
+  reason : {e : Expression} {r : Bool} → Reads x e.form r → ReasonReads x (Some e) r
+
 pub data ActionReads (x : ℕ) : Action → Bool → Type 0 where
   lets : {name : Name} {e : Expression} {r : Bool} → Reads x e.form r → ActionReads x (A.Let name e) r
   assigns : {name : Name} {change : Change} {e : Expression} {r : Bool} → Reads x e.form r → ActionReads x (A.Assign name change e) (changes change name x || r)
   writes : {w : Write} {ws : Vec Write Global} {r s : Bool} → Reads x w.value.form r → WritesRead x ws.items s → ActionReads x (A.Write w ws) (r || s)
   emits : {es : Vec Expression Global} {r : Bool} → AnyReads x es.items r → ActionReads x (A.Emit es) r
-  requires : {e : Expression} {r : Bool} → Reads x e.form r → ActionReads x (A.Require e) r
+  requires : {e : Expression} {why : Option Expression} {r s : Bool} → Reads x e.form r → ReasonReads x why s → ActionReads x (A.Require e why) (r || s)
   locks : {p : Place} {r : Bool} → PlaceReads x p r → ActionReads x (A.Lock p) r
   descends : {name : Name} {e : Expression} {r : Bool} → Reads x e.form r → ActionReads x (A.Descend name e) r
   takes : {name from : Name} → ActionReads x (A.Take name from) false
   frees : {name : Name} → ActionReads x (A.Free name) false
   leaves : {leave : Leave} → ActionReads x (A.Leave leave) false
+  fails_with : {e : Expression} {r : Bool} → Reads x e.form r → ActionReads x (A.Fail e) r
   -- what a part is given
   uses : {name : Name} {es : Vec Expression Global} {r : Bool} → AnyReads x es.items r → ActionReads x (A.Use name es) r
 
@@ -85,7 +91,7 @@ mutual
   -- the bound of a loop is a constant
   pub data StatementReads (x : ℕ) : StatementForm → Bool → Type 0 where
     act : {a : Action} {o : Option Otherwise} {r s : Bool} → ActionReads x a r → ElseReads x o s → StatementReads x (T.Act a o) (r || s)
-    try : (xs ys : Vec Statement Global) {r s : Bool} → BlockReads x xs.items r → BlockReads x ys.items s → StatementReads x (T.Try xs ys) (r || s)
+    try : {why : Option Name} (xs ys : Vec Statement Global) {r s : Bool} → BlockReads x xs.items r → BlockReads x ys.items s → StatementReads x (T.Try why xs ys) (r || s)
     if : {q : Question} (xs ys : Vec Statement Global) {r s t : Bool} → QuestionReads x q r → BlockReads x xs.items s → BlockReads x ys.items t →
         StatementReads x (T.If q xs ys) (r || (s || t))
     repeat : {turns : Expression} {most : Option Expression} (xs : Vec Statement Global) {r s : Bool} → Reads x turns.form r → BlockReads x xs.items s →

@@ -38,8 +38,8 @@ mutual
   pub data FormWalks (x : ℕ) : Bool → ℕ → StatementForm → List Warning → List Warning → Type 0 where
     act : {offset : ℕ} {a : Action} {o : Option Otherwise} {b r : Bool} {ws us : List Warning} → ActionLocks x a r → ElseWalks x (b || r) o ws us →
         FormWalks x b offset (T.Act a o) ws us
-    try : {offset : ℕ} (xs ys : Vec Statement Global) {b r : Bool} {ws vs us : List Warning} → BlockLocks x xs.items r → BlockWalks x b xs.items ws vs →
-        BlockWalks x (b || r) ys.items vs us → FormWalks x b offset (T.Try xs ys) ws us
+    try : {why : Option Name} {offset : ℕ} (xs ys : Vec Statement Global) {b r : Bool} {ws vs us : List Warning} → BlockLocks x xs.items r → BlockWalks x b xs.items ws vs →
+        BlockWalks x (b || r) ys.items vs us → FormWalks x b offset (T.Try why xs ys) ws us
     if : {offset : ℕ} {question : Question} (xs ys : Vec Statement Global) {b : Bool} {ws vs us : List Warning} →
         BlockWalks x (b || question_locks x question) xs.items ws vs → BlockWalks x b ys.items vs us → FormWalks x b offset (T.If question xs ys) ws us
     repeat : {offset : ℕ} {turns : Expression} {most : Option Expression} (xs : Vec Statement Global) {b r : Bool} {ws us : List Warning} → BlockLocks x xs.items r →

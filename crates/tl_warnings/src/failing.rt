@@ -76,12 +76,13 @@ pub fn action_may_fail(action: &Action) -> bool
             change_may_fail(first.change, &first.value) | writes_may_fail(others)
         }
         Action::Emit(numbers) => any_may_fail(numbers),
-        Action::Require(_) => true,
+        Action::Require(_, _) => true,
         Action::Lock(_) => true,
         Action::Descend { .. } => true,
         Action::Take { .. } => false,
         Action::Free(_) => false,
         Action::Leave(leave) => is_fail(*leave),
+        Action::Fail(_) => true,
         Action::Use { .. } => true,
     }
 }
@@ -113,7 +114,7 @@ fn statement_may_fail(statement: &Statement) -> bool
 {
     match &statement.form {
         StatementForm::Act(action, otherwise) => action_may_fail(action) & else_may_fail(otherwise),
-        StatementForm::Try(body, handler) => block_may_fail(body) & block_may_fail(handler),
+        StatementForm::Try(_, body, handler) => block_may_fail(body) & block_may_fail(handler),
         StatementForm::If(question, body, otherwise) => {
             question_may_fail(question) | (block_may_fail(body) | block_may_fail(otherwise))
         }

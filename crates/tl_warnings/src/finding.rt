@@ -91,12 +91,13 @@ fn locked(action: &Action, rest: &[Statement], found: &mut Vec<Warning>) -> Resu
         Action::Assign { .. } => Ok(()),
         Action::Write(_, _) => Ok(()),
         Action::Emit(_) => Ok(()),
-        Action::Require(_) => Ok(()),
+        Action::Require(_, _) => Ok(()),
         Action::Lock(place) => placed(place, rest, found),
         Action::Descend { .. } => Ok(()),
         Action::Take { .. } => Ok(()),
         Action::Free(_) => Ok(()),
         Action::Leave(_) => Ok(()),
+        Action::Fail(_) => Ok(()),
         Action::Use { .. } => Ok(()),
     }
 }
@@ -139,10 +140,11 @@ fn statement(
             locked(action, rest, found)?;
             else_of(action_may_fail(action), otherwise, found)
         }
-        StatementForm::Try(body, handler) => {
+        StatementForm::Try(why, body, handler) => {
             let may_fail = block_may_fail(body);
             unless(may_fail, Needless::Try, statement.offset, found)?;
             block(body, found)?;
+            named(*why, handler, found)?;
             block(handler, found)
         }
         StatementForm::If(question, body, otherwise) => {
@@ -224,6 +226,7 @@ fn procedure(procedure: &Procedure, found: &mut Vec<Warning>) -> Result<(), Allo
     arguments(procedure, &procedure.arguments, found)?;
     block(&procedure.body, found)?;
     let may_fail = block_may_fail(&procedure.body);
+    named(procedure.why, &procedure.otherwise, found)?;
     else_of_procedure(may_fail, &procedure.otherwise, found)?;
     block(&procedure.otherwise, found)
 }

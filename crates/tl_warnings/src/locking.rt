@@ -28,12 +28,13 @@ pub fn action_locks(node: Symbol, action: &Action) -> bool
         Action::Assign { .. } => false,
         Action::Write(_, _) => false,
         Action::Emit(_) => false,
-        Action::Require(_) => false,
+        Action::Require(_, _) => false,
         Action::Lock(place) => place_locks(node, place),
         Action::Descend { .. } => false,
         Action::Take { .. } => false,
         Action::Free(_) => false,
         Action::Leave(_) => false,
+        Action::Fail(_) => false,
         Action::Use { arguments, .. } => any_reads(node, arguments),
     }
 }
@@ -67,7 +68,8 @@ fn statement_locks(node: Symbol, statement: &Statement) -> bool
         StatementForm::Act(action, otherwise) => {
             action_locks(node, action) | else_locks(node, otherwise)
         }
-        StatementForm::Try(body, handler) => block_locks(node, body) | block_locks(node, handler),
+        StatementForm::Try(_, body, handler) => block_locks(node, body)
+            | block_locks(node, handler),
         StatementForm::If(question, body, otherwise) => {
             let asked = question_locks(node, question);
             asked | (block_locks(node, body) | block_locks(node, otherwise))

@@ -25,6 +25,7 @@ fn behind_action(node: Symbol, action: &Action, locks: bool, before: bool) -> Op
         Action::Descend { node: name, .. } => Some(before & (name.symbol.0 != node.0)),
         Action::Take { node: name, .. } => Some(before & (name.symbol.0 != node.0)),
         Action::Leave(_) => None,
+        Action::Fail(_) => None,
         _ => Some(before | locks),
     }
 }
@@ -62,7 +63,7 @@ fn statement_passes(node: Symbol, statement: &Statement, before: bool) -> Option
             let other = else_passes(node, otherwise, before | locks);
             join(behind_action(node, action, locks, before), other)
         }
-        StatementForm::Try(body, handler) => {
+        StatementForm::Try(_, body, handler) => {
             let locks = block_locks(node, body);
             let first = block_passes(node, body, before);
             join(first, block_passes(node, handler, before | locks))

@@ -1,7 +1,7 @@
 // What reads a value.
 
 ghost use Rattle.std.specs.Prelude.{◌≡◌};
-ghost use Rattle.tl_warnings.specs.Reading.{Reads, AnyReads, WritesRead, PlaceReads, QuestionReads, changes as changes_lem, ActionReads, BlockReads, StatementReads, ElseReads};
+ghost use Rattle.tl_warnings.specs.Reading.{Reads, AnyReads, WritesRead, PlaceReads, QuestionReads, ReasonReads, changes as changes_lem, ActionReads, BlockReads, StatementReads, ElseReads};
 
 use tl_syntax::Symbol;
 use tl_syntax::parsed::{
@@ -67,6 +67,16 @@ fn changes(change: Change, name: Name, value: Symbol) -> bool
     }
 }
 
+// The code of a condition's failure, if it has one.
+fn reason_reads(value: Symbol, code: &Option<Expression>) -> bool
+    ensures { ReasonReads value.0 code.now result }
+{
+    match code {
+        Some(code) => reads(value, code),
+        None => false,
+    }
+}
+
 fn action_reads(value: Symbol, action: &Action) -> bool
     ensures { ActionReads value.0 action.now result }
 {
@@ -79,12 +89,13 @@ fn action_reads(value: Symbol, action: &Action) -> bool
         } => changes(*change, *name, value) | reads(value, number),
         Action::Write(first, others) => reads(value, &first.value) | writes_read(value, others),
         Action::Emit(numbers) => any_reads(value, numbers),
-        Action::Require(condition) => reads(value, condition),
+        Action::Require(condition, code) => reads(value, condition) | reason_reads(value, code),
         Action::Lock(place) => place_reads(value, place),
         Action::Descend { number, .. } => reads(value, number),
         Action::Take { .. } => false,
         Action::Free(_) => false,
         Action::Leave(_) => false,
+        Action::Fail(code) => reads(value, code),
         Action::Use { arguments, .. } => any_reads(value, arguments),
     }
 }
@@ -118,7 +129,8 @@ fn statement_reads(value: Symbol, statement: &Statement) -> bool
         StatementForm::Act(action, otherwise) => {
             action_reads(value, action) | else_reads(value, otherwise)
         }
-        StatementForm::Try(body, handler) => block_reads(value, body) | block_reads(value, handler),
+        StatementForm::Try(_, body, handler) => block_reads(value, body)
+            | block_reads(value, handler),
         StatementForm::If(question, body, otherwise) => {
             let asked = question_reads(value, question);
             asked | (block_reads(value, body) | block_reads(value, otherwise))

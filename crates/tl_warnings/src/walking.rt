@@ -76,7 +76,7 @@ fn statement_walks(
             let locks = action_locks(node, action);
             else_walks(node, otherwise, before | locks, found)
         }
-        StatementForm::Try(body, handler) => {
+        StatementForm::Try(_, body, handler) => {
             let locks = block_locks(node, body);
             block_walks(node, body, before, found)?;
             block_walks(node, handler, before | locks, found)

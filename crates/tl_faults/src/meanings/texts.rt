@@ -151,7 +151,7 @@ pub fn from_205_to_275(number: u16) -> Option<Meaning> {
         271 => Some(Meaning {
             parts: ", line, column",
             name: "bad number",
-            when: "the number has a leading zero or a letter, or is too large; or a constant is, or a number on the way to it, or one there is divided by 0",
+            when: "the number has a leading zero or a letter, or is too large; or a constant is, or a number on the way to it, or one there is divided by 0; or the code of a failure has more than 32 bits",
             advice: "numbers are decimal, from -9223372036854775808 to 9223372036854775807",
         }),
         272 => Some(Meaning {
@@ -163,7 +163,7 @@ pub fn from_205_to_275(number: u16) -> Option<Meaning> {
         273 => Some(Meaning {
             parts: ", line, column",
             name: "misplaced",
-            when: "the word, number or sign can't stand here, as a `return` in a part; a side of `%` is computed; a part is named `while`",
+            when: "the word, number or sign can't stand here, as a `return` in a part; a side of `%`, or the code of a failure, is computed; a part is named `while`",
             advice: "look at what stands before it; `language.md` has the grammar",
         }),
         274 => Some(Meaning {

@@ -1,5 +1,5 @@
 use Rattle.std.proofs.Common.{rules}
-use Rattle.tl_syntax.specs.Tokens.{left_parenthesis, right_parenthesis, left_brace, right_brace, comma, semicolon, dot, assign, plus, minus, times, divide, remainder, less_sign, greater_sign}
+use Rattle.tl_syntax.specs.Tokens.{left_parenthesis, right_parenthesis, left_brace, right_brace, comma, semicolon, colon, dot, assign, plus, minus, times, divide, remainder, less_sign, greater_sign}
 use Rattle.tl_syntax.proofs.words.short_sign.Goals as goal
 
 pub returns-in-40 : goal.returns-in-40
@@ -19,6 +19,9 @@ returns-in-44 c = comma (search rules)
 
 pub returns-in-59 : goal.returns-in-59
 returns-in-59 c = semicolon (search rules)
+
+pub returns-in-58 : goal.returns-in-58
+returns-in-58 c = colon (search rules)
 
 pub returns-in-46 : goal.returns-in-46
 returns-in-46 c = dot (search rules)

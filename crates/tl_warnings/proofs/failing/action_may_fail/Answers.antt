@@ -1,4 +1,4 @@
-use Rattle.tl_warnings.specs.Failing.{lets, assigns, writes, emits, requires, locks, descends, takes, frees, leaves, uses}
+use Rattle.tl_warnings.specs.Failing.{lets, assigns, writes, emits, requires, locks, descends, takes, frees, leaves, fails_with, uses}
 use Rattle.tl_warnings.proofs.FailingLemmas.{any_at, writes_at}
 use Rattle.tl_warnings.proofs.failing.action_may_fail.Goals as goal
 
@@ -34,3 +34,6 @@ returns-in-Leave c = rw (c.in-Leave.is, c.is_fail.ensures) leaves
 
 pub returns-in-Use : goal.returns-in-Use
 returns-in-Use c = rw c.in-Use.is uses
+
+pub returns-in-Fail : goal.returns-in-Fail
+returns-in-Fail c = rw c.in-Fail.is fails_with

@@ -18,11 +18,11 @@ pub statement-returns-in_ok-locked-in-Act : goal.statement-returns-in_ok-locked-
 statement-returns-in_ok-locked-in-Act t c =
     rw c.in-Act.is (on_ok_weaker c.else_of.result (λ w. act (named_at refl c.declared.ensures c.in_ok-named-in-Act.ensures) c.in_ok-locked-in-Act.ensures c.action_may_fail.ensures w) c.else_of.ensures)
 
-pub statement-returns-in_ok-block-in-Try : goal.statement-returns-in_ok-block-in-Try
-statement-returns-in_ok-block-in-Try t c =
+pub statement-returns-in_ok-named-in-Try : goal.statement-returns-in_ok-named-in-Try
+statement-returns-in_ok-named-in-Try t c =
     rw c.in-Try.is (on_ok_weaker c.block-in-Try.result (λ w.
     try c.in-Try.body c.in-Try.handler (fails_at c.deref.ensures.value c.block_may_fail-may_fail.ensures)
-    (block_at c.deref-in-Try.ensures.value c.in_ok-unless-in-Try.ensures c.in_ok-block-in-Try.ensures) (block_at c.deref-in-Try-2.ensures.value refl w)) c.block-in-Try.ensures)
+    (block_at c.deref-in-Try.ensures.value c.in_ok-unless-in-Try.ensures c.in_ok-block-in-Try.ensures) (named_at c.deref-in-Try-2.ensures.value refl c.in_ok-named-in-Try.ensures) (block_at c.deref-in-Try-3.ensures.value refl w)) c.block-in-Try.ensures)
 
 pub statement-returns-in_ok-block-in-If : goal.statement-returns-in_ok-block-in-If
 statement-returns-in_ok-block-in-If t c =

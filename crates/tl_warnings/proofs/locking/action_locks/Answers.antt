@@ -1,4 +1,4 @@
-use Rattle.tl_warnings.specs.Locking.{lets, assigns, writes, emits, requires, locks, descends, takes, frees, leaves, uses}
+use Rattle.tl_warnings.specs.Locking.{lets, assigns, writes, emits, requires, locks, descends, takes, frees, leaves, fails_with, uses}
 use Rattle.tl_warnings.proofs.ReadingLemmas.{any_at}
 use Rattle.tl_warnings.proofs.locking.action_locks.Goals as goal
 
@@ -34,3 +34,6 @@ returns-in-Leave c = rw c.in-Leave.is leaves
 
 pub returns-in-Use : goal.returns-in-Use
 returns-in-Use c = rw c.in-Use.is (uses (any_at c.deref.ensures.value c.any_reads.ensures))
+
+pub returns-in-Fail : goal.returns-in-Fail
+returns-in-Fail c = rw c.in-Fail.is fails_with

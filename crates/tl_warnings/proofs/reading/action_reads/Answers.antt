@@ -1,4 +1,4 @@
-use Rattle.tl_warnings.specs.Reading.{lets, assigns, writes, emits, requires, locks, descends, takes, frees, leaves, uses}
+use Rattle.tl_warnings.specs.Reading.{lets, assigns, writes, emits, requires, locks, descends, takes, frees, leaves, fails_with, uses}
 use Rattle.tl_warnings.proofs.ReadingLemmas.{any_at, writes_at}
 use Rattle.tl_warnings.proofs.reading.action_reads.Goals as goal
 
@@ -15,7 +15,7 @@ pub returns-in-Emit : goal.returns-in-Emit
 returns-in-Emit c = rw c.in-Emit.is (emits (any_at c.deref-in-Emit.ensures.value c.any_reads.ensures))
 
 pub returns-in-Require : goal.returns-in-Require
-returns-in-Require c = rw c.in-Require.is (requires c.reads-in-Require.ensures)
+returns-in-Require c = rw c.in-Require.is (requires c.reads-in-Require.ensures c.reason_reads.ensures)
 
 pub returns-in-Lock : goal.returns-in-Lock
 returns-in-Lock c = rw c.in-Lock.is (locks c.place_reads.ensures)
@@ -34,3 +34,6 @@ returns-in-Leave c = rw c.in-Leave.is leaves
 
 pub returns-in-Use : goal.returns-in-Use
 returns-in-Use c = rw c.in-Use.is (uses (any_at c.deref-in-Use.ensures.value c.any_reads-in-Use.ensures))
+
+pub returns-in-Fail : goal.returns-in-Fail
+returns-in-Fail c = rw c.in-Fail.is (fails_with c.reads-in-Fail.ensures)

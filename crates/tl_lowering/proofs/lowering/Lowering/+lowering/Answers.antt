@@ -12,26 +12,28 @@ use Rattle.tl_lowering.specs.Repeating.{IsRepetition}
 use Rattle.tl_lowering.specs.Scopes.{View, view_of, IsAt, IsLowered}
 use Rattle.tl_lowering.specs.Sound.{IsWellFormed}
 use Rattle.tl_lowering.proofs.DescendLemmas.{turns_begin, same_turn}
-use Rattle.tl_lowering.proofs.PutLemmas.{block_is_no_walk}
-use Rattle.tl_lowering.proofs.BodyLemmas.{on_ok, then_flow, same_draft, same_behind, back, loop_back, at_as, at_known, same_repetition}
-use Rattle.tl_lowering.proofs.DepthLemmas.{weight, falls_in_else, falls_in_repeat, falls_in_try, falls_in_handler, falls_in_first, falls_in_second, falls_in_visit, falls_in_block, falls_in_part}
+use Rattle.tl_lowering.proofs.PutLemmas.{turn_is_no_walk}
+use Rattle.tl_lowering.proofs.BodyLemmas.{on_ok, then_flow, same_draft, same_behind, back, loop_back, at_as, at_known, same_repetition, is_turn, turn_in}
+use Rattle.tl_lowering.proofs.DepthLemmas.{weight, falls_in_else, falls_in_repeat, falls_in_tried, falls_in_first, falls_in_second, falls_in_visit, falls_in_block, falls_in_part}
 use Rattle.tl_lowering.proofs.DraftLemmas.{none_read, none_behind, extended_paths, extended_draft, opened_paths, opened_draft, block_lowered}
-use Rattle.tl_lowering.proofs.LoweringLemmas.{at_exactly, at_behind, at_handler, extends_self}
+use Rattle.tl_lowering.proofs.LoweringLemmas.{at_exactly, at_behind, at_handler, extends_self, extends_same}
 use Rattle.std.proofs.lemmas.List.{take_all}
 use Rattle.tl_lowering.specs.Entering.{before_of, before_body, entered_at, entered_of, EntersSoFar}
 use Rattle.tl_lowering.specs.Passing.{or_of, KeepsOut}
 use Rattle.tl_lowering.proofs.EnterLemmas.{none_entered, then_entered, plain_entered, opened_entered, tried_entering, entering_as, finished_entering}
-use Rattle.tl_lowering.specs.Names.{Names, names_in, names_of, inside}
+use Rattle.tl_lowering.specs.Failing.{readers_of, reading}
+use Rattle.tl_lowering.specs.Names.{Names, IsNew, names_in, names_of, inside, with_unnamed}
 use Rattle.std.specs.Prelude.{option_map}
 use Rattle.tl_syntax.specs.declared.parsed.Expression.{Expression as TextExpression}
 use Rattle.tl_syntax.specs.declared.parsed.StatementForm.TheVariants as T
-use Rattle.tl_lowering.specs.Choosing.{names_within, IsRepeated}
-use Rattle.tl_lowering.proofs.AlikeBlocks.{block_once}
+use Rattle.tl_lowering.specs.Choosing.{IsTurnBody, IsRepeated}
+use Rattle.tl_lowering.proofs.AlikeBlocks.{turn_once}
 use Rattle.tl_lowering.specs.Drafts.{no_else, one_else, IsHandled}
-use Rattle.tl_lowering.specs.Reading.{IsBlock, act, plain as by_itself, block_alone}
+use Rattle.tl_lowering.specs.Reading.{IsBlock, act, plain as by_itself, requires, fails_with, block_alone}
 use Rattle.tl_lowering.proofs.PathLemmas.{ok_more, both_ok}
-use Rattle.tl_lowering.proofs.PartLemmas.{none_part, more_part, whole_part, plain_extended, opened_extended, opens_at, tried_statement, handled_statement, chosen_statement, repeated_statement, visited_statement, forms_of, loop_at, block_at, used_action, no_use}
-use Rattle.tl_lowering.proofs.GivenLemmas.{lowered_as, lowered_in_loops, given_none, given_node, given_variable, given_value, given_at, same_before, turn_as}
+use Rattle.tl_lowering.proofs.PartLemmas.{none_part, more_part, whole_part, plain_extended, opened_extended, opens_at, tried_statement, handled_statement, chosen_statement, repeated_statement, visited_statement, forms_of, loop_at, block_at, used_action, plain_left, told_statement, heard_of, missing_named}
+use Rattle.tl_lowering.proofs.MarkLemmas.{failure_lowered}
+use Rattle.tl_lowering.proofs.GivenLemmas.{lowered_there, lowered_as, lowered_in_loops, given_none, given_node, given_variable, given_value, given_at, same_before, turn_as}
 use Rattle.tl_lowering.proofs.WriteLemmas.{computed_lowered, computed_entering}
 use Rattle.tl_lowering.proofs.lowering.Lowering.+lowering.Goals as goal
 
@@ -40,7 +42,7 @@ block-loop-statement-init t c =
     let scope : View = view_of c.args.self.now.scope in
     let draft : Draft = record { opened = c.new.result; statements = c.new-2.result; flow = c.on.result } in
     record {
-      named = none_part c.args.before.now (names_of c.args.self.now.scope) draft c.new.ensures.items c.new-2.ensures.items;
+      named = none_part c.args.before.now (readers_of c.args.reader) (names_of c.args.self.now.scope) draft c.new.ensures.items c.new-2.ensures.items;
       draft = none_read scope c.args.held draft c.new.ensures.items c.new-2.ensures.items;
       entering = none_entered (before_of c.args.held) draft (entered_of draft.flow) c.new.ensures.items c.new-2.ensures.items c.on.ensures.entered;
       flow = c.on.ensures.paths ∙ sym (none_behind scope c.args.held draft c.new.ensures.items c.new-2.ensures.items);
@@ -98,7 +100,8 @@ block-returns-clause-entering t c = finished_entering c.loop-statement.invariant
 pub extend-returns-in_default-clause-entering : goal.extend-returns-in_default-clause-entering
 extend-returns-in_default-clause-entering t c = λ e x a so_far.
     let draft : Draft = record { opened = c.args.draft.now.opened; statements = c.push.new.self; flow = c.args.draft.now.flow } in
-    plain_entered e (before_of c.args.held) c.args.draft.now draft x a so_far c.in_ok-lowered.ensures.entering c.in_ok-at.ensures.named refl c.in_ok-push.ensures.items
+    let marked = c.in_ok-marked.ensures.entering (before_of c.args.held) c.in_ok-lowered.flow c.in_ok-lowered.ensures.entering in
+    plain_entered e (before_of c.args.held) c.args.draft.now draft x a so_far marked c.in_ok-at.ensures.named refl c.in_ok-push.ensures.items
 
 pub extend-returns-clause-entering : goal.extend-returns-clause-entering
 extend-returns-clause-entering t c = λ e x a so_far.
@@ -111,14 +114,18 @@ extend-returns-clause-entering t c = λ e x a so_far.
 pub extend-returns-in_default-clause-draft : goal.extend-returns-in_default-clause-draft
 extend-returns-in_default-clause-draft t c = λ start d e.
     let draft : Draft = record { opened = c.args.draft.now.opened; statements = c.push.new.self; flow = c.args.draft.now.flow } in
+    let flow = c.in_ok-lowered.flow in
+    let same = c.in_ok-lowered.ensures.scope in
     extended_draft start c.args.draft.now draft (view_of c.args.self.now.scope) (view_of c.statement.new.self.scope) c.args.held
-    c.in_ok-lowered.lowered c.in_ok-at.field-0 c.in_ok-lowered.flow d e c.in_ok-at.ensures.same c.in_ok-lowered.ensures.lowered c.in_ok-lowered.ensures.scope refl c.in_ok-push.ensures.items
+    c.in_ok-marked.marked c.in_ok-at.field-0 flow d e c.in_ok-at.ensures.same (lowered_there same (c.in_ok-marked.ensures.lowered c.args.held flow (lowered_there (sym same) c.in_ok-lowered.ensures.lowered))) same refl c.in_ok-push.ensures.items
 
 pub extend-returns-in_default-clause-paths : goal.extend-returns-in_default-clause-paths
 extend-returns-in_default-clause-paths t c = λ start e.
     let draft : Draft = record { opened = c.args.draft.now.opened; statements = c.push.new.self; flow = c.args.draft.now.flow } in
+    let flow = c.in_ok-lowered.flow in
+    let same = c.in_ok-lowered.ensures.scope in
     extended_paths start c.args.draft.now draft (view_of c.args.self.now.scope) (view_of c.statement.new.self.scope) c.args.held
-    c.in_ok-lowered.lowered c.in_ok-at.field-0 c.in_ok-lowered.flow e c.in_ok-at.ensures.same c.in_ok-lowered.ensures.lowered refl c.in_ok-push.ensures.items
+    c.in_ok-marked.marked c.in_ok-at.field-0 flow e c.in_ok-at.ensures.same (lowered_there same (c.in_ok-marked.ensures.lowered c.args.held flow (lowered_there (sym same) c.in_ok-lowered.ensures.lowered))) refl c.in_ok-push.ensures.items
 
 pub extend-returns-in_default-clause-at : goal.extend-returns-in_default-clause-at
 extend-returns-in_default-clause-at t c =
@@ -160,7 +167,7 @@ handled-block-requires t c =
 
 pub statement-handled-requires : goal.statement-handled-requires
 statement-handled-requires t c =
-    let acted = c.in_ok-lowered-in-Act in
+    let acted = c.in_ok-lowered-in-Some in
     let same = sym acted.ensures.scope in
     let form : c.args.form.now ≡ T.Act c.in-Act.action (Some c.in-Some.otherwise) = c.in-Act.is ∙ ap (T.Act c.in-Act.action) c.in-Some.is in (
       falls_in_else t 2 (weight c.args.before.now) c.args.form.now c.in-Act.action c.in-Some.otherwise c.deref.result.now c.decreases c.deref.ensures.value (omega arith) form,
@@ -176,20 +183,138 @@ statement-turns-requires t c =
 
 pub refusal-block-requires : goal.refusal-block-requires
 refusal-block-requires t c =
-    let form : c.args.form.now ≡ T.Act c.in-Act.field-0 (Some c.in-Some.otherwise) = c.in-Act.is ∙ ap (T.Act c.in-Act.field-0) c.in-Some.is in
-    (falls_in_else t 1 (weight c.args.before.now) c.args.form.now c.in-Act.field-0 c.in-Some.otherwise c.deref.result.now c.decreases c.deref.ensures.value (omega arith) form, c.requires)
+    let form : c.args.statement.now.form ≡ T.Act c.in-Act.field-0 (Some c.in-Some.otherwise) = c.in-Act.is ∙ ap (T.Act c.in-Act.field-0) c.in-Some.is in
+    (falls_in_else t 1 (weight c.args.before.now) c.args.statement.now.form c.in-Act.field-0 c.in-Some.otherwise c.deref.result.now c.decreases c.deref.ensures.value (omega arith) form, c.requires)
 
-pub statement-block-requires : goal.statement-block-requires
-statement-block-requires t c =
-    (falls_in_try t 1 (weight c.args.before.now) c.args.form.now c.in-Try.body c.in-Try.handler c.deref-in-Try.result.now c.decreases c.deref-in-Try.ensures.value (omega arith) c.in-Try.is, c.requires)
+pub statement-tried-requires : goal.statement-tried-requires
+statement-tried-requires t c =
+    let r = c.in-Try in
+    (falls_in_tried t (weight c.args.before.now) c.args.form.now r.why r.body r.handler c.deref-in-Try.result.now c.deref-in-Try-2.result.now c.decreases c.deref-in-Try.ensures.value c.deref-in-Try-2.ensures.value r.is, c.requires)
 
-pub statement-handled-requires-in-Try : goal.statement-handled-requires-in-Try
-statement-handled-requires-in-Try t c =
-    let lowered = c.in_ok-lowered-in-Try.lowered in
-    let same = sym c.in_ok-lowered-in-Try.ensures.scope in (
-      falls_in_handler t 2 (weight c.args.before.now) c.args.form.now c.in-Try.body c.in-Try.handler c.deref-in-Try-2.result.now c.decreases c.deref-in-Try-2.ensures.value (omega arith) c.in-Try.is,
-      (subst (λ v. IsAt v c.args.held) same c.requires, (subst (λ v. IsLowered v c.args.held lowered.0 lowered.1) same c.in_ok-lowered-in-Try.ensures.lowered, c.in_ok-lowered-in-Try.ensures.entering)),
+pub statement-returns-in-Try-clause-named : goal.statement-returns-in-Try-clause-named
+statement-returns-in-Try-clause-named t c =
+    rw c.in-Try.is (ok_more c.tried.result _ _ c.tried.ensures.named (λ l h plain. h c.in-Try.body c.in-Try.handler c.deref-in-Try.ensures.value c.deref-in-Try-2.ensures.value))
+
+pub tried-block-requires : goal.tried-block-requires
+tried-block-requires t c = (omega (arith, c.decreases), c.requires)
+
+pub tried-handled-requires : goal.tried-handled-requires
+tried-handled-requires t c =
+    let lowered = c.in_ok-lowered.lowered in
+    let same = sym c.in_ok-lowered.ensures.scope in
+    (omega (arith, c.decreases), (subst (λ v. IsAt v c.args.held) same c.requires, (subst (λ v. IsLowered v c.args.held lowered.0 lowered.1) same c.in_ok-lowered.ensures.lowered, c.in_ok-lowered.ensures.entering)))
+
+pub tried-told-requires : goal.tried-told-requires
+tried-told-requires t c = (omega (arith, c.decreases), c.requires)
+
+pub tried-heard-requires : goal.tried-heard-requires
+tried-heard-requires t c =
+    let told = c.in_ok-register in
+    let there = sym told.ensures.scope in (
+      omega (arith, c.decreases),
+      (
+        subst (λ v. IsAt v c.args.held) there c.requires,
+        (
+          subst (λ v. IsNew (names_in v) c.in-Some.why) there told.ensures.fresh,
+          (
+            told.ensures.register ∙ ap (λ (v : View). v.values) there,
+            (subst (λ (v : View). IsLowered (record v { values = v.values + 1 }) c.args.held told.lowered.0 told.lowered.1) there told.ensures.lowered, told.ensures.entering),
+          ),
+        ),
+      ),
     )
+
+pub told-block-requires : goal.told-block-requires
+told-block-requires t c =
+    let more = c.add_value.ensures in
+    (omega (arith, c.decreases), record { names = more.in_use c.requires.names; nodes = subst (λ m. AreFree m (nodes_of c.args.held)) (sym more.nodes) c.requires.nodes })
+
+pub told-returns-clause-scope : goal.told-returns-clause-scope
+told-returns-clause-scope t c =
+    let old : View = view_of c.args.self.now.scope in
+    let mark = c.mark-mark.ensures in
+    let left = c.return_to.ensures in
+    let more = c.add_value.ensures in
+    let same = c.in_ok-lowered.ensures.scope in
+    back old (view_of c.add_value.new.self) (view_of c.block.new.self.scope) (view_of c.return_to.new.self) c.mark-mark.result.local
+    (λ outer e. extends_same outer old (view_of c.add_value.new.self) e more.meanings more.local more.fields more.procedures) same mark.local left.meanings left.fields left.procedures left.local (left.values ∙ mark.values)
+    (left.nodes ∙ mark.nodes) (left.loops ∙ ap (λ (v : View). v.loops) same ∙ more.loops)
+
+pub told-returns-clause-named : goal.told-returns-clause-named
+told-returns-clause-named t c =
+    let block = rw c.add_value.ensures.named at c.in_ok-lowered.ensures.named in
+    subst (λ r. IsBlock c.args.before.now (readers_of (Some r)) (with_unnamed (names_of c.args.self.now.scope)) c.args.body.now c.in_ok-lowered.lowered.0) c.in_ok-register.ensures.register block
+
+pub told-returns-clause-lowered : goal.told-returns-clause-lowered
+told-returns-clause-lowered t c =
+    let scope : View = view_of c.args.self.now.scope in
+    let more = c.add_value.ensures in
+    lowered_as (view_of c.add_value.new.self) (record scope { values = scope.values + 1 }) c.args.held more.values more.nodes more.loops c.in_ok-lowered.ensures.lowered
+
+pub heard-handled-requires : goal.heard-handled-requires
+heard-handled-requires t c =
+    let scope : View = view_of c.args.self.now.scope in
+    let more = c.in_ok-declare_value.ensures in (
+      omega (arith, c.decreases),
+      (
+        record { names = more.in_use c.requires.at.names; nodes = subst (λ m. AreFree m (nodes_of c.args.held)) (sym more.nodes) c.requires.at.nodes },
+        (lowered_as (record scope { values = scope.values + 1 }) (view_of c.declare_value.new.self) c.args.held (sym more.values) (sym more.nodes) (sym more.loops) c.requires.lowered, c.requires.entering),
+      ),
+    )
+
+pub heard-returns-clause-scope : goal.heard-returns-clause-scope
+heard-returns-clause-scope t c =
+    let old : View = view_of c.args.self.now.scope in
+    let mark = c.mark-mark.ensures in
+    let left = c.return_to.ensures in
+    let more = c.in_ok-declare_value.ensures in
+    let same = c.in_ok-tried.ensures.scope in
+    on_ok c.let_in.result _
+    (back old (view_of c.declare_value.new.self) (view_of c.handled.new.self.scope) (view_of c.return_to.new.self) c.mark-mark.result.local
+    (λ outer e. more.names outer c.requires.fresh e) same mark.local left.meanings left.fields left.procedures left.local (left.values ∙ mark.values)
+    (left.nodes ∙ mark.nodes) (left.loops ∙ ap (λ (v : View). v.loops) same ∙ more.loops))
+
+pub heard-returns-clause-named : goal.heard-returns-clause-named
+heard-returns-clause-named t c =
+    let tried = c.in_ok-tried in
+    ok_more c.let_in.result _ _ c.let_in.ensures.named (λ l h. heard_of c.requires.register c.in_ok-declare_value.ensures.named tried.ensures.named h)
+
+pub heard-returns-clause-lowered : goal.heard-returns-clause-lowered
+heard-returns-clause-lowered t c =
+    let scope : View = view_of c.args.self.now.scope in
+    let more = c.in_ok-declare_value.ensures in
+    let body = lowered_as (view_of c.declare_value.new.self) (record scope { values = scope.values + 1 }) c.args.held more.values more.nodes more.loops c.in_ok-tried.ensures.lowered in
+    both_ok c.let_in.result _ _ _ c.let_in.ensures.named c.let_in.ensures.flow (λ l h f. computed_lowered scope.values c.args.why.1 scope c.args.held c.requires.register h tt (omega arith) body f)
+
+pub heard-returns-clause-entering : goal.heard-returns-clause-entering
+heard-returns-clause-entering t c = both_ok c.let_in.result _ _ _ c.let_in.ensures.named c.let_in.ensures.entering (λ l h f. computed_entering h c.in_ok-tried.ensures.entering f)
+
+pub tried-returns-in_default-clause-named : goal.tried-returns-in_default-clause-named
+tried-returns-in_default-clause-named t c =
+    let block = c.in_ok-lowered.ensures.named in
+    rw c.in_default.is (ok_more c.handled.result _ _ c.handled.ensures.named (λ l h xs ys e f. tried_statement xs ys (ap names_in c.in_ok-lowered.ensures.scope) e f block h))
+
+pub tried-returns-clause-named : goal.tried-returns-clause-named
+tried-returns-clause-named t c =
+    let told = c.in_ok-register.ensures in
+    rw c.in-Some.is (ok_more c.heard.result _ _ c.heard.ensures.named (λ l h xs ys e f. told_statement xs ys (ap names_in told.scope) e f told.fresh told.room told.named h))
+
+pub acted-returns-in-Require-clause-named : goal.acted-returns-in-Require-clause-named
+acted-returns-in-Require-clause-named t c = rw c.in-Require.is (ok_more c.require.result _ _ c.require.ensures.named (λ l h plain. requires h))
+
+pub acted-returns-in-Leave-clause-named : goal.acted-returns-in-Leave-clause-named
+acted-returns-in-Leave-clause-named t c = rw c.in-Leave.is (ok_more c.leave.result _ _ (c.leave.ensures.named c.args.before.now) (λ l h plain. h))
+
+pub acted-returns-in_ok-number-in-Fail-clause-named : goal.acted-returns-in_ok-number-in-Fail-clause-named
+acted-returns-in_ok-number-in-Fail-clause-named t c = rw c.in-Fail.is (ok_more c.failure.result _ _ c.failure.ensures.named (λ l h plain. fails_with c.in_ok-number-in-Fail.ensures.named h))
+
+pub acted-returns-in_ok-number-in-Fail-clause-lowered : goal.acted-returns-in_ok-number-in-Fail-clause-lowered
+acted-returns-in_ok-number-in-Fail-clause-lowered t c = ok_more c.failure.result _ _ c.failure.ensures.refusal (λ l h. failure_lowered h)
+
+pub acted-returns-in_default-clause-named : goal.acted-returns-in_default-clause-named
+acted-returns-in_default-clause-named t c =
+    let other = c.in_default in
+    ok_more c.action.result _ _ c.action.ensures.named (λ l h plain. by_itself (h (plain_left c.args.action.now plain other.not-Use other.not-Require other.not-Leave other.not-Fail)))
 
 pub statement-first_block-requires : goal.statement-first_block-requires
 statement-first_block-requires t c = (
@@ -197,8 +322,8 @@ statement-first_block-requires t c = (
   (c.requires, c.in_ok-entrance-in-If.ensures.entrance),
 )
 
-pub statement-block-requires-in-If : goal.statement-block-requires-in-If
-statement-block-requires-in-If t c = (
+pub statement-block-requires : goal.statement-block-requires
+statement-block-requires t c = (
   falls_in_second t 1 (weight c.args.before.now) c.args.form.now c.in-If.question c.in-If.body c.in-If.otherwise c.deref-in-If-2.result.now c.decreases c.deref-in-If-2.ensures.value (omega arith) c.in-If.is,
   subst (λ v. IsAt v c.args.held) (sym c.in_ok-first-in-If.ensures.scope) c.requires,
 )
@@ -224,12 +349,26 @@ turn-returns-clause-scope t c =
     begun.extends c.in_ok-body.ensures.scope mark.local left.meanings left.fields left.procedures left.local (left.values ∙ mark.values) (left.nodes ∙ mark.nodes) left.loops begun.loops (omega arith)
 
 pub turn-returns-clause-named : goal.turn-returns-clause-named
-turn-returns-clause-named t c = subst (λ n. IsBlock c.args.before.now n c.args.body.now c.in_ok-body.body) c.in_ok-inside.ensures.named c.in_ok-body.ensures.named
+turn-returns-clause-named t c =
+    let read = subst (λ n. IsBlock c.args.before.now (readers_of c.args.reader) n c.args.body.now c.in_ok-body.body) c.in_ok-inside.ensures.named c.in_ok-body.ensures.named in
+    record { read = c.in_ok-body.body; read_is = read; kept_is = c.in_ok-body-2.ensures.named }
+
+pub turn-returns-clause-turn : goal.turn-returns-clause-turn
+turn-returns-clause-turn t c =
+    let old : View = view_of c.args.self.now.scope in
+    let inside = c.in_ok-inside in
+    let flow = c.in_ok-flow in
+    let values = c.return_to.ensures.values ∙ c.mark-mark.ensures.values in
+    let nodes = c.return_to.ensures.nodes ∙ c.mark-mark.ensures.nodes in
+    let read = is_turn old (view_of c.begin.new.self.scope) c.args.start c.args.start inside.inside c.args.repetition.now c.in_ok-body.body c.in_ok-body.flow flow.flow c.in_ok-body.ensures.lowered
+    inside.ensures.values inside.ensures.nodes inside.ensures.loops inside.ensures.held refl flow.ensures.paths flow.ensures.kept in
+    turn_in values nodes (c.in_ok-body-2.ensures.turn c.args.start flow.flow (turn_in (sym values) (sym nodes) read))
 
 pub turn-returns-clause-entering : goal.turn-returns-clause-entering
 turn-returns-clause-entering t c =
     let inside = c.in_ok-inside.ensures in
-    entering_as (ap₂ (λ e p. record { entered = e; passed = p }) inside.entered inside.passed) c.in_ok-flow.ensures.entered c.in_ok-body.ensures.entering
+    c.in_ok-body-2.ensures.entering (before_body c.args.repetition.now (before_of c.args.start)) c.in_ok-flow.flow
+    (entering_as (ap₂ (λ e p. record { entered = e; passed = p }) inside.entered inside.passed) c.in_ok-flow.ensures.entered c.in_ok-body.ensures.entering)
 
 pub turn-returns-clause-once : goal.turn-returns-clause-once
 turn-returns-clause-once t c = c.in_ok-flow.ensures.once
@@ -239,7 +378,7 @@ turn-returns-clause-once t c = c.in_ok-flow.ensures.once
 pub block-returns-clause-named : goal.block-returns-clause-named
 block-returns-clause-named t c =
     let part = c.loop-statement.invariant.named in
-    subst (λ xs. IsBlock c.args.before.now (names_of c.args.self.now.scope) xs c.in_ok-finished.field-0) (take_all c.loop-statement.statement-index c.args.statements.now (omega arith))
+    subst (λ xs. IsBlock c.args.before.now (readers_of c.args.reader) (names_of c.args.self.now.scope) xs c.in_ok-finished.field-0) (take_all c.loop-statement.statement-index c.args.statements.now (omega arith))
     (whole_part part c.in_ok-finished.ensures.named)
 
 pub extend-returns-in_default-clause-named : goal.extend-returns-in_default-clause-named
@@ -247,7 +386,7 @@ extend-returns-in_default-clause-named t c =
     let draft : Draft = record { opened = c.args.draft.now.opened; statements = c.push.new.self; flow = c.args.draft.now.flow } in
     let plain = rw c.in_default.is at c.in_ok-head.ensures.named in
     let l = c.in_ok-lowered.ensures.lowered in
-    plain_extended c.args.statement.now c.args.draft.now draft c.in_ok-lowered.flow (λ leaves. ap (λ (p : Paths). p.after) l.paths ∙ leaves (nodes_of c.args.held)) (ap names_in c.in_ok-lowered.ensures.scope) (c.in_ok-lowered.ensures.named plain) c.in_ok-at.ensures.named refl c.in_ok-push.ensures.items
+    plain_extended c.args.statement.now c.args.draft.now draft c.in_ok-lowered.flow (λ leaves. ap (λ (p : Paths). p.after) l.paths ∙ leaves (nodes_of c.args.held)) (ap names_in c.in_ok-lowered.ensures.scope) (c.in_ok-lowered.ensures.named plain) c.in_ok-marked.ensures.named c.in_ok-at.ensures.named refl c.in_ok-push.ensures.items
 
 pub extend-returns-clause-named : goal.extend-returns-clause-named
 extend-returns-clause-named t c =
@@ -256,14 +395,8 @@ extend-returns-clause-named t c =
     let earlier : c.replace-earlier.result.items ≡ c.args.draft.now.statements.items = search rules in
     let none : c.replace-earlier.new.dest.items ≡ [] = search rules in
     let opening = rw c.in-Some.is at c.in_ok-head.ensures.named in
-    let opens = opens_at (ap names_in c.in_ok-otherwise.ensures.scope) opening c.in_ok-otherwise.ensures.named (c.in_ok-binding.ensures.named c.args.before.now) in
+    let opens = opens_at (ap names_in c.in_ok-otherwise.ensures.scope) opening c.in_ok-otherwise.ensures.named (c.in_ok-binding.ensures.named c.args.before.now (readers_of c.args.reader)) in
     opened_extended c.args.statement.now c.args.draft.now draft c.in_ok-binding.flow opened opens refl earlier c.in_ok-push-2.ensures.items none
-
-pub statement-returns-in_ok-lowered-in-Try-clause-named : goal.statement-returns-in_ok-lowered-in-Try-clause-named
-statement-returns-in_ok-lowered-in-Try-clause-named t c =
-    rw c.in-Try.is
-    (ok_more c.handled-in-Try.result _ _ c.handled-in-Try.ensures.named
-    (λ l h plain. tried_statement c.in-Try.body c.in-Try.handler (ap names_in c.in_ok-lowered-in-Try.ensures.scope) c.deref-in-Try.ensures.value c.deref-in-Try-2.ensures.value c.in_ok-lowered-in-Try.ensures.named h))
 
 pub statement-returns-in_ok-second-in-If-clause-named : goal.statement-returns-in_ok-second-in-If-clause-named
 statement-returns-in_ok-second-in-If-clause-named t c =
@@ -298,17 +431,19 @@ statement-returns-in-Block-clause-named t c =
 pub statement-returns-in-None-clause-named : goal.statement-returns-in-None-clause-named
 statement-returns-in-None-clause-named t c =
     let form : c.args.form.now ≡ T.Act c.in-Act.action None = c.in-Act.is ∙ ap (T.Act c.in-Act.action) c.in-None.is in
-    rw form (λ plain. act (c.in_ok-lowered-in-Act.ensures.named plain))
+    rw form (ok_more c.acted.result _ _ c.acted.ensures.named (λ l h plain. act (h plain)))
 
-pub statement-returns-in-Some-clause-named : goal.statement-returns-in-Some-clause-named
-statement-returns-in-Some-clause-named t c =
+pub statement-returns-in_ok-lowered-in-Some-clause-named : goal.statement-returns-in_ok-lowered-in-Some-clause-named
+statement-returns-in_ok-lowered-in-Some-clause-named t c =
     let form : c.args.form.now ≡ T.Act c.in-Act.action (Some c.in-Some.otherwise) = c.in-Act.is ∙ ap (T.Act c.in-Act.action) c.in-Some.is in
-    let acted = c.in_ok-lowered-in-Act in
-    let handled = subst (λ n. IfOk c.handled.result (λ l. IsHandled c.args.before.now n acted.lowered.0 c.deref.result.now l.0)) (ap names_in acted.ensures.scope) c.handled.ensures.named in
+    let acted = c.in_ok-lowered-in-Some in
+    let handled = subst (λ n. IfOk c.handled.result (λ l. IsHandled c.args.before.now (readers_of c.args.reader) n acted.lowered.0 c.deref.result.now l.0)) (ap names_in acted.ensures.scope) c.handled.ensures.named in
     rw form (ok_more c.handled.result _ _ handled (λ l h plain. handled_statement (acted.ensures.named plain) c.deref.ensures.value h))
 
 pub refusal-returns-in_default-otherwise-clause-named : goal.refusal-returns-in_default-otherwise-clause-named
-refusal-returns-in_default-otherwise-clause-named t c = λ action o form. no_else (c.in-Act.is ∙ ap (T.Act c.in-Act.field-0) c.in_default-otherwise.is)
+refusal-returns-in_default-otherwise-clause-named t c =
+    let form : c.args.statement.now.form ≡ T.Act c.in-Act.field-0 None = c.in-Act.is ∙ ap (T.Act c.in-Act.field-0) c.in_default-otherwise.is in
+    missing_named c.args.before.now (readers_of c.args.reader) (names_of c.args.self.now.scope) c.args.head.now c.in-Act.field-0 c.missing_else.result form c.missing_else.ensures.none c.missing_else.ensures.told
 
 pub refusal-returns-clause-named : goal.refusal-returns-clause-named
 refusal-returns-clause-named t c = λ action o form.
@@ -325,10 +460,6 @@ first_block-returns-clause-entering t c = λ entrance. entering_as (c.in_ok-insi
 
 pub acted-returns-in-Use-clause-named : goal.acted-returns-in-Use-clause-named
 acted-returns-in-Use-clause-named t c = rw c.in-Use.is (ok_more c.used.result _ _ c.used.ensures.named (λ l h plain. used_action c.in-Use.arguments c.deref.ensures.value h))
-
-pub acted-returns-in_default-clause-named : goal.acted-returns-in_default-clause-named
-acted-returns-in_default-clause-named t c =
-    ok_more c.action.result _ _ c.action.ensures.named (λ l h plain. by_itself (h plain (no_use c.args.action.now c.in_default.not-Use)))
 
 pub used-given-requires : goal.used-given-requires
 used-given-requires t c =
@@ -475,7 +606,7 @@ turns-repeated-requires-clause-once t c =
     subst (KeepsOut (entered_of c.in_ok-first.first.1).after) same c.in_ok-first.ensures.once
 
 pub turns-repeated-requires-clause-block : goal.turns-repeated-requires-clause-block
-turns-repeated-requires-clause-block t c = block_is_no_walk c.in_ok-first.ensures.named
+turns-repeated-requires-clause-block t c = turn_is_no_walk c.in_ok-first.ensures.named
 
 pub turns-repeated-requires-clause-turn : goal.turns-repeated-requires-clause-turn
 turns-repeated-requires-clause-turn t c = turn_as (view_of c.args.self.now.scope) (view_of c.turn.new.self.scope) c.forgetting-guess.result c.args.held c.in_ok-first.ensures.scope c.forgetting-guess.ensures.nodes c.in_ok-first.ensures.turn
@@ -491,9 +622,9 @@ turns-repeated-requires-2-clause-repetition t c = let back = sym (c.in_ok-again.
 
 pub turns-repeated-requires-2-clause-before : goal.turns-repeated-requires-2-clause-before
 turns-repeated-requires-2-clause-before t c =
-    let named = subst (λ (v : View). IsBlock c.args.before.now (names_within (names_in v) c.args.repetition) c.args.body.now c.in_ok-again.again.0) c.in_ok-first.ensures.scope c.in_ok-again.ensures.named in
+    let named = subst (λ (v : View). IsTurnBody c.args.before.now (readers_of c.args.reader) (names_in v) c.args.repetition c.args.body.now c.in_ok-again.again.0) c.in_ok-first.ensures.scope c.in_ok-again.ensures.named in
     turns_begin c.args.held c.forgetting-start.result c.args.repetition c.passed_down.result c.in_ok-again.again.0
-    (λ n. c.passed_down.ensures n ∙ same_turn c.args.repetition n (block_once c.in_ok-first.ensures.named named)) c.forgetting-start.ensures.entered c.forgetting-start.ensures.passed
+    (λ n. c.passed_down.ensures n ∙ same_turn c.args.repetition n (turn_once c.in_ok-first.ensures.named named)) c.forgetting-start.ensures.entered c.forgetting-start.ensures.passed
 
 pub turns-repeated-requires-2-clause-entering : goal.turns-repeated-requires-2-clause-entering
 turns-repeated-requires-2-clause-entering t c = c.in_ok-again.ensures.entering
@@ -502,7 +633,7 @@ pub turns-repeated-requires-2-clause-once : goal.turns-repeated-requires-2-claus
 turns-repeated-requires-2-clause-once t c = c.in_ok-again.ensures.once
 
 pub turns-repeated-requires-2-clause-block : goal.turns-repeated-requires-2-clause-block
-turns-repeated-requires-2-clause-block t c = block_is_no_walk c.in_ok-again.ensures.named
+turns-repeated-requires-2-clause-block t c = turn_is_no_walk c.in_ok-again.ensures.named
 
 pub turns-repeated-requires-2-clause-turn : goal.turns-repeated-requires-2-clause-turn
 turns-repeated-requires-2-clause-turn t c = turn_as (view_of c.turn.new.self.scope) (view_of c.turn-2.new.self.scope) c.forgetting-start.result c.args.held c.in_ok-again.ensures.scope c.forgetting-start.ensures.nodes c.in_ok-again.ensures.turn
@@ -521,7 +652,7 @@ turns-returns-clause-scope t c = on_ok c.repeated-2.result _ (c.in_ok-again.ensu
 
 pub turns-returns-clause-named : goal.turns-returns-clause-named
 turns-returns-clause-named t c =
-    let named = subst (λ (v : View). IsBlock c.args.before.now (names_within (names_in v) c.args.repetition) c.args.body.now c.in_ok-again.again.0) c.in_ok-first.ensures.scope c.in_ok-again.ensures.named in
+    let named = subst (λ (v : View). IsTurnBody c.args.before.now (readers_of c.args.reader) (names_in v) c.args.repetition c.args.body.now c.in_ok-again.again.0) c.in_ok-first.ensures.scope c.in_ok-again.ensures.named in
     ok_more c.repeated-2.result _ _ c.repeated-2.ensures.named (λ l h. record { body = c.in_ok-again.again.0; body_is = named; whole_is = h })
 
 pub turns-returns-clause-lowered : goal.turns-returns-clause-lowered

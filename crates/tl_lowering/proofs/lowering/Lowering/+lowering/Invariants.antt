@@ -1,8 +1,9 @@
-use Rattle.std.proofs.Common.{◌≡◌, ◌+◌, ◌*◌, length, take}
+use Rattle.std.proofs.Common.{◌≡◌, ◌+◌, ◌*◌, length, take, max}
 use Rattle.std.specs.Prelude.{IfSome}
 use Rattle.tl_lowering.specs.Blocks.{at_start}
 use Rattle.tl_lowering.specs.Entering.{before_of, entered_of, EntersSoFar}
 use Rattle.tl_lowering.specs.Lowering.{IsDraft, behind_draft}
+use Rattle.tl_lowering.specs.Failing.{readers_of}
 use Rattle.tl_lowering.specs.Names.{names_of}
 use Rattle.tl_lowering.specs.Paths.{nodes_of, paths_of}
 use Rattle.tl_lowering.specs.Scopes.{view_of, IsAt, Extends}
@@ -18,7 +19,7 @@ invariant-block-loop-statement l =
     let old = l.initial.self.scope in
     let start = at_start old.values old.nodes (nodes_of l.held) in
     record {
-      named : IsPart l.before (names_of old) (take l.statement-index l.statements) l.draft (names_of l.self.scope);
+      named : IsPart l.before (readers_of l.reader) (names_of old) (take l.statement-index l.statements) l.draft (names_of l.self.scope);
       entering : EntersSoFar (before_of l.held) l.draft (entered_of l.draft.flow);
       draft : IsDraft start l.draft (view_of l.self.scope);
       flow : paths_of l.draft.flow ≡ behind_draft start l.draft;
@@ -50,7 +51,7 @@ abbrev pub decreases-statement : goal.decreases-statement
 decreases-statement l = 4 * form.the_size l.form.now + 3 + weight l.before.now
 
 abbrev pub decreases-refusal : goal.decreases-refusal
-decreases-refusal l = 4 * form.the_size l.form.now + 3 + weight l.before.now
+decreases-refusal l = 4 * form.the_size l.statement.now.form + 3 + weight l.before.now
 
 abbrev pub decreases-acted : goal.decreases-acted
 decreases-acted l = weight l.before.now + 2
@@ -60,3 +61,12 @@ decreases-used l = weight l.before.now + 1
 
 abbrev pub decreases-given : goal.decreases-given
 decreases-given l = 4 * most statement.the_size l.using.body.now + length l.parameters.now + 2 + weight l.using.before.now
+
+abbrev pub decreases-told : goal.decreases-told
+decreases-told l = 4 * most statement.the_size l.body.now + 2 + weight l.before.now
+
+abbrev pub decreases-heard : goal.decreases-heard
+decreases-heard l = 4 * most statement.the_size l.handler.now + 3 + weight l.before.now
+
+abbrev pub decreases-tried : goal.decreases-tried
+decreases-tried l = 4 * max (most statement.the_size l.body.now) (most statement.the_size l.handler.now) + 4 + weight l.before.now

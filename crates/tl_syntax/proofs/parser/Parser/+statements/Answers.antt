@@ -1,14 +1,14 @@
-use Rattle.std.proofs.Common.{rules, sym, ◌∙◌}
+use Rattle.std.proofs.Common.{rules, sym, ◌∙◌, arith}
 use Rattle.std.proofs.lemmas.Result.{IfOk-weaker}
 use Rattle.tl_syntax.specs.declared.token.TokenKind.TheVariants as K
-use Rattle.tl_syntax.specs.Statements.{IsBlock, IsOther, block, statement, act, try, if, if_else, repeat, repeat_at_most, for_each, block_alone, while, other_block}
+use Rattle.tl_syntax.specs.Statements.{IsBlock, IsOther, block, statement, act, act_else, try, if, if_else, repeat, repeat_at_most, for_each, block_alone, while, other_block}
 use Rattle.tl_syntax.specs.declared.parsed.Otherwise.{Otherwise, roll-Otherwise, out-roll-Otherwise}
 use Rattle.tl_syntax.proofs.KindLemmas.{same_kind}
-use Rattle.tl_syntax.proofs.StatementLemmas.{no_statements, next_statement, act_tail, other_only, tail_block, tail_leaving}
+use Rattle.tl_syntax.proofs.StatementLemmas.{no_statements, next_statement, other_only, otherwise_block, otherwise_leaving}
 use Rattle.tl_syntax.proofs.parser.Parser.+statements.Goals as goal
 
 pub attempt-returns : goal.attempt-returns
-attempt-returns t c = try c.in_ok-body.body c.in_ok-otherwise.otherwise c.in_ok-at.ensures c.in_ok-body.ensures c.in_ok-at-2.ensures c.in_ok-otherwise.ensures
+attempt-returns t c = try c.in_ok-body.body c.in_ok-otherwise.otherwise c.in_ok-at.ensures c.in_ok-body.ensures c.in_ok-at-2.ensures c.in_ok-why.ensures c.in_ok-otherwise.ensures
 
 pub statement-returns : goal.statement-returns
 statement-returns t c = statement c.in_ok-form.ensures c.offset-offset.ensures
@@ -51,21 +51,27 @@ other-returns t c =
     IfOk-weaker c.block.result (λ read. IsBlock c.args.self.now.tokens.now c.args.levels c.args.at read.1 read.0.items) (λ read. IsOther c.args.self.now.tokens.now c.args.levels c.args.at read.1 read.0.items)
     (λ read h. other_block h) c.block.ensures
 
-pub tail-returns-then-eq : goal.tail-returns-then-eq
-tail-returns-then-eq t c =
-    let o : Otherwise = roll-Otherwise (record { offset = c.offset-offset.result; body = c.in_ok-body.body }) in
-    tail_block o c.in_ok-body.body (rw out-roll-Otherwise) (rw out-roll-Otherwise) c.in_ok-next.ensures c.in_ok-body.ensures c.may_end-after.ensures c.offset-offset.ensures
-
-pub tail-returns : goal.tail-returns
-tail-returns t c =
-    let o : Otherwise = roll-Otherwise (record { offset = c.offset-offset.result; body = c.in_ok-body-2.body }) in
-    tail_leaving o c.in_ok-body-2.body (rw out-roll-Otherwise) (rw out-roll-Otherwise) c.in_ok-next.ensures c.in_ok-body-2.ensures c.offset-offset.ensures
-
-pub act-returns-then-may_have_else : goal.act-returns-then-may_have_else
-act-returns-then-may_have_else t c = act_tail c.in_ok-otherwise.otherwise c.in_ok-action.ensures (sym c.may_have_else.ensures ∙ c.if-may_have_else.true) c.in_ok-otherwise.ensures
+pub act-ended-requires : goal.act-ended-requires
+act-ended-requires t c = (omega (arith, c.decreases), (c.in_ok-action.ensures, sym c.may_have_else.ensures ∙ c.if-may_have_else.true))
 
 pub act-returns : goal.act-returns
-act-returns t c = act c.in_ok-action.ensures c.in_ok-at.ensures
+act-returns t c = act c.in_ok-action.ensures c.in_ok-after.ensures
+
+pub ended-returns-then-eq : goal.ended-returns-then-eq
+ended-returns-then-eq t c = act_else c.requires.read c.requires.allowed c.in_ok-why.ensures (rw c.offset-offset.ensures at c.in_ok-form.ensures)
+
+pub ended-returns : goal.ended-returns
+ended-returns t c = act c.requires.read c.in_ok-after.ensures
+
+pub otherwise-returns-then-begins_block : goal.otherwise-returns-then-begins_block
+otherwise-returns-then-begins_block t c =
+    let o : Otherwise = roll-Otherwise (record { offset = c.offset-offset.result; body = c.in_ok-body.body }) in
+    otherwise_block o c.in_ok-body.body (rw out-roll-Otherwise) (rw out-roll-Otherwise) c.in_ok-next.ensures c.in_ok-why.ensures c.in_ok-body.ensures c.may_end-after.ensures c.offset-offset.ensures
+
+pub otherwise-returns : goal.otherwise-returns
+otherwise-returns t c =
+    let o : Otherwise = roll-Otherwise (record { offset = c.offset-offset.result; body = c.in_ok-body-2.body }) in
+    otherwise_leaving o c.in_ok-body-2.body (rw out-roll-Otherwise) (rw out-roll-Otherwise) c.in_ok-next.ensures c.in_ok-body-2.ensures c.offset-offset.ensures
 
 pub form-returns-in_ok-body-in-LeftBrace : goal.form-returns-in_ok-body-in-LeftBrace
 form-returns-in_ok-body-in-LeftBrace t c = block_alone c.in_ok-body-in-LeftBrace.body c.in_ok-body-in-LeftBrace.ensures

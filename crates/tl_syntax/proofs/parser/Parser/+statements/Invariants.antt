@@ -20,8 +20,8 @@ decreases-repetition l = 10 * l.levels + 5
 abbrev pub decreases-statement : goal.decreases-statement
 decreases-statement l = 10 * l.levels + 9
 
-abbrev pub decreases-tail : goal.decreases-tail
-decreases-tail l = 10 * l.levels + 5
+abbrev pub decreases-otherwise : goal.decreases-otherwise
+decreases-otherwise l = 10 * l.levels + 5
 
 abbrev pub decreases-visit : goal.decreases-visit
 decreases-visit l = 10 * l.levels + 5
@@ -44,3 +44,6 @@ decreases-other l = 10 * l.levels + 6
 
 abbrev pub decreases-conditional_loop : goal.decreases-conditional_loop
 decreases-conditional_loop l = 10 * l.levels + 5
+
+abbrev pub decreases-ended : goal.decreases-ended
+decreases-ended l = 10 * l.levels + 6
