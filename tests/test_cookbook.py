@@ -101,6 +101,19 @@ def test_cascade(tests, tree):
     tried(tests, tree, "cascade", [*chain, *[(2,)] * 16], [("16 children at the end", ("cascade", 0, 9), NOTHING, {0: [9], 1: [9], 2: [9]})])
 
 
+def test_greatest(tests, tree):
+    least = -(2**63)
+    tried(tests, tree, "greatest", [(0,), (0,), (0, 3), (0, 5), *[(1, value) for value in (4, 9, 2, 9, 7, least)], (2, -8)], [
+        ("six children, two of them equal", ("greatest", 1), [1, 9, 3, 9, 4, 7], {}),
+        ("three children", ("greatest", 0), [2, 5, 1, 3, 0, 0], {}),
+        ("one child", ("greatest", 2), [0, -8, -1, least, -1, least], {}),
+        ("no child", ("greatest", 3), [-1, least, -1, least, -1, least], {}),
+        ("no such node", ("greatest", 11), [-2], {}),
+    ])
+    tried(tests, tree, "greatest", [(0,), *[(0, value) for value in range(1_000)]], [("1,000 children", ("greatest", 0), [999, 999, 998, 998, 997, 997], {})])
+    tried(tests, tree, "greatest", [(0,), *[(0, value) for value in range(1_001)]], [("1,001 children", ("greatest", 0), [-5], {})])
+
+
 def test_path_counter(tests, tree):
     """From the root to its second child 2, to the second child 5 of that, and to the only child 6 of that: the digits 0, 1 and 1."""
     nodes = [(0, 10), (0,), (0, 4), (0, GREATEST), (2,), (2,), (5, 7)]
@@ -198,6 +211,29 @@ def test_reorder(tests, tree):
     ])
 
 
+def test_reservation(tests, tree):
+    """The row 1 has the seats 3 to 5: held up to 50, held up to 90, and free. The row 2 has none, and the seats of 6 were reserved as often as they can be."""
+    nodes = [(0,), (0,), (0,), (1, 7, 50, 4), (1, 8, 90, 2), (1,), (0,), (6, 0, 0, GREATEST)]
+    tried(tests, tree, "reservation", nodes, [
+        ("a seat whose time is over", ("reserve", 1, 42, 50, 10), [0, 0, 5], {3: [42, 60, 5]}),
+        ("a free seat", ("reserve", 1, 42, 49, 10), [0, 2, 1], {5: [42, 59, 1]}),
+        ("no customer", ("reserve", 1, 0, 50, 10), [1], {}),
+        ("no time", ("reserve", 1, 42, 50, 0), [2], {}),
+        ("a time that doesn't fit", ("reserve", 1, 42, GREATEST, 1), [-1], {}),
+        ("no such row", ("reserve", 8, 42, 50, 10), [-2], {}),
+        ("a row without seats", ("reserve", 2, 42, 50, 10), [3], {}),
+        ("a token that doesn't fit", ("reserve", 6, 42, 50, 10), [-1], {}),
+        ("giving a seat back", ("release", 1, 1, 2), [0], {4: [0, 90, 2]}),
+        ("giving back with an old token", ("release", 1, 0, 3), [4], {}),
+        ("giving back what is free", ("release", 1, 2, 0), [4], {}),
+        ("giving back no seat", ("release", 1, 3, 1), [-3], {}),
+        ("giving back in no row", ("release", 9, 0, 1), [-2], {}),
+    ])
+    held = [(0,), *[(0, 7, 90, 1)] * 500]
+    tried(tests, tree, "reservation", held, [("a full row", ("reserve", 0, 42, 50, 10), [3], {}), ("the first of a full row, later", ("reserve", 0, 42, 90, 10), [0, 0, 2], {1: [42, 100, 2]})])
+    tried(tests, tree, "reservation", [*held, (0,)], [("a row of 501 seats", ("reserve", 0, 42, 50, 10), [-5], {})])
+
+
 def test_search(tests, tree):
     """The children of the node 1 have the keys 30, 10, 20, 10 and -1, and values; those of 2 have none of these keys."""
     nodes, none = [(0,), (0,), (0,), (1, 30, GREATEST), (1, 10, 100), (1, 20, -6), (1, 10, 111), (1, -1, -1), (2, 1, 1)], [-1]
@@ -243,6 +279,24 @@ def test_seats(tests, tree):
     ])
     tried(tests, tree, "seats", [(0, 1), *[(0, 0, 7)] * 31, (0,)], [("the last of 32 seats", ("reserve", 0, 42, 1), [31], {0: [0], 32: [0, 42]})])
     tried(tests, tree, "seats", [(0, 33), *[(0,)] * 33], [("a row of 33 seats", ("reserve", 0, 42, 1), NOTHING, {})])
+
+
+def test_transfer(tests, tree):
+    """The bank 0 has the accounts 1 to 4, of which the third is closed, and the last one has as much as fits."""
+    tried(tests, tree, "transfer", [(0,), (0, 10), (0, 5), (0, 7, 1), (0, GREATEST)], [
+        ("a transfer", ("transfer", 0, 10, 0, 1), [0], {1: [0], 2: [15]}),
+        ("to the left", ("transfer", 0, 5, 1, 0), [0], {1: [15], 2: [0]}),
+        ("too much", ("transfer", 0, 11, 0, 1), [2], {}),
+        ("from a closed account", ("transfer", 0, 1, 2, 0), [1], {}),
+        ("to a closed account", ("transfer", 0, 1, 0, 2), [1], {}),
+        ("too much from a closed account", ("transfer", 0, 8, 2, 0), [1], {}),
+        ("nothing", ("transfer", 0, 0, 0, 1), [3], {}),
+        ("less than nothing", ("transfer", 0, -1, 0, 1), [3], {}),
+        ("a sum that doesn't fit", ("transfer", 0, 1, 0, 3), [-1], {}),
+        ("no such bank", ("transfer", 5, 1, 0, 1), [-2], {}),
+        ("no such account", ("transfer", 0, 1, 0, 4), [-3], {}),
+        ("one account", ("transfer", 0, 1, 1, 1), [-3], {}),
+    ])
 
 
 def test_transfer_any(tests, tree):

@@ -7,13 +7,18 @@ from running import TOP
 
 FOLDER = TOP / "tests/procedures"
 TAKEN = """
-    atomic_bulk_write atomic_bulk_write_by_try bom_one_level constant_as_field_or_bound lease least_number_behind_an_operator ledger_two_subtrees part_and_a_later_constant part_that_gives_nothing_back queue_ring quota_any_depth
-    reservation_expiry search_by_while search_sorted sum_behind_a_condition three_way_split top3_one_pass top_k_in_passes versioned
+    atomic_bulk_write atomic_bulk_write_by_try bom_one_level codes constant_as_field_or_bound lease least_number_behind_an_operator ledger_two_subtrees part_and_a_later_constant part_that_gives_nothing_back queue_ring quota_any_depth
+    reservation_expiry search_by_while search_sorted sum_behind_a_condition three_way_split top3_one_pass top_k_in_passes
+    transfer_with_reasons versioned
 """.split()
 # The number of the fault, its line and its column.
 REFUSED = {
     "bom_recursive": [275, 4, 39],
     "children_listed": [297, 4, 44],
+    "code_by_an_old_name": [276, 2, 38],
+    "code_of_64_bits": [271, 3, 21],
+    "code_of_an_if": [273, 2, 31],
+    "code_that_is_computed": [273, 2, 21],
     "follow_a_reference": [282, 10, 14],
     "one_field_twice": [298, 4, 19],
     "part_named_while": [273, 1, 6],
@@ -32,7 +37,7 @@ LARGE = {
     "many names": (hostile.many_names, [], [294, 3, 1226]),
 }
 # Where a loop may not go through all children, and `check` says so.
-WARNED = {"sum_behind_a_condition": "line 7, column 5", "top_k_in_passes": "line 9, column 9"}
+WARNED = {"codes": "line 55, column 90", "sum_behind_a_condition": "line 7, column 5", "top_k_in_passes": "line 9, column 9"}
 # The arguments, the reply, and the fields of the records that are others afterwards. The node 0 has three children, whose first field is 5, 9 and 7.
 CALLS = [
     ("atomic_bulk_write", [0, 4], [1], {1: [4], 2: [4], 3: [4]}),
@@ -47,6 +52,25 @@ CALLS = [
     ("top_k_in_passes", [0, 1], [1, 9], {}),
     # The second pass can't lock the children again.
     ("top_k_in_passes", [0, 3], [1, 9], {}),
+    ("transfer_with_reasons", [4, 0, 2], [0], {1: [1], 3: [11]}),
+    ("transfer_with_reasons", [6, 0, 2], [2], {}),
+    ("transfer_with_reasons", [0, 0, 2], [3], {}),
+    ("transfer_with_reasons", [4, 0, 3], [-3], {}),
+]
+# What the procedures of `codes` answer: the code of the failure last.
+GREATEST = 2**63 - 1
+CODES = [
+    ("plain", [], [0]), ("named", [], [10]), ("negative", [], [-7]), ("given", [5], [5]), ("given", [GREATEST], [GREATEST]),
+    ("short", [6], [6]), ("short", [5], [10]), ("required", [6], [6]), ("required", [5], [0]), ("computed", [1], [-1]), ("computed", [-GREATEST], [10]), ("computed", [0], [0]),
+    ("overflow", [3], [9]), ("overflow", [GREATEST], [-1]), ("quotient", [0], [-1]), ("quotient", [2], [3]), ("chosen", [0], [-1]), ("chosen", [1], [3]), ("chosen", [7], [4]),
+    ("no_node", [1], [5]), ("no_node", [4], [-2]), ("no_node", [-1], [-2]), ("no_child", [1], [9]), ("no_child", [3], [-3]), ("passed", [], [-3]), ("same_two", [], [-3]),
+    ("down", [2], [7]), ("down", [3], [-3]), ("often", [2], [1, 1]), ("often", [4], [-4]), ("looping", [3], [3]), ("looping", [4], [-4]),
+    ("many", [], [-5]), ("held", [0], [5, 9, 7]), ("held", [1], [5, -5]), ("later", [], [14, -5]), ("turns", [2], [5, 9, 20]), ("turns", [3], [5, 9, 7, 0]), ("stale", [1], [2, 0]),
+    ("own", [1], [-1, 1]), ("own", [0], [GREATEST]), ("own_let", [0], [-1]), ("own_let", [1], [1]), ("own_lock", [9], [-2]), ("own_lock", [1], [5]),
+    ("own_require", [5], [21, 5]), ("own_require", [6], [6]), ("own_fail", [5], [23]), ("own_fail", [6], [6]),
+    ("inner", [], [3, 4]), ("handled", [0], [1, -1]), ("handled", [7], [1, 1]), ("again", [0], [1, 5]), ("again", [1], []), ("whole", [0], [11]), ("whole", [1], [1]),
+    ("through", [0], [12]), ("through", [1], [1]), ("told", [0], [12]), ("told", [1], [1]), ("given_number", [0], [-1]), ("given_number", [8], [12]), ("given_number", [7], [1]),
+    ("own_use", [0], [12, 2]), ("own_use", [1], [2]), ("unread", [0], [9]), ("unread", [1], [1]),
 ]
 
 
@@ -77,3 +101,19 @@ def test_what_they_do(tests):
         answer, left = map(json.loads, run.out.splitlines())
         records = [[*changed.get(node, []), *record[len(changed.get(node, [])):]] for node, record in enumerate(tree["records"])]
         tests.check(f"{name} {arguments}", run.status == 0 and answer["reply"] == reply and left["records"] == records, run)
+
+
+def test_codes(tests):
+    for name, arguments, reply in CODES:
+        run = tests.run("alone", "--tree", FOLDER / "tree.json", "--proc", FOLDER / "codes.tdb", "--name", name, "--args", json.dumps(arguments))
+        tests.check(f"{name} {arguments}", run.status == 0 and json.loads(run.out.splitlines()[0])["reply"] == reply, run)
+
+
+def test_nothing_reads_a_code(tests):
+    """Where no `else` has a name, codes cost nothing: the text becomes what it becomes without them."""
+    text = "part q(x) {{ require x > 2{code}; }} proc p(a, b) {{ require a > b{code}; q(a); try {{ let c = a + b; if c > 9 {{ fail{word}; }} emit c; }} else {{ emit 1; }} }} else {{ emit 2; }}"
+    made = []
+    for code, word in [("", ""), (" : 7", " 8")]:
+        tests.path("text.tdb").write_text(text.format(code=code, word=word))
+        made.append(tests.run("procs", "text.tdb"))
+    tests.check("the instructions", made[0].status == 0 and made[0].out == made[1].out, made)

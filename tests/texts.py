@@ -12,8 +12,15 @@ NUMBERS = [*[0, 1, 2, 3] * 3, 7, 10, 100, 2**31 - 1, -1, -5, -(2**31)]
 RELATIONS = {"<": lambda a, b: a < b, "<=": lambda a, b: a <= b, ">": lambda a, b: a > b, ">=": lambda a, b: a >= b, "==": lambda a, b: a == b, "!=": lambda a, b: a != b}
 
 
+# The codes of failures to which a text gives none.
+NUMBER, NODE, CHILD, BOUND, CHILDREN = -1, -2, -3, -4, -5
+
+
 class Fails(Exception):
-    """Control goes to the innermost else."""
+    """Control goes to the innermost else, which may read the code."""
+
+    def __init__(self, code=0):
+        self.code = code
 
 
 class Breaks(Exception):
@@ -89,16 +96,31 @@ class Texts:
 
     # -- statements
 
+    def code(self, scope):
+        """The code of a failure, or None."""
+        if self.often(0.4):
+            return None
+        return self.chance.choice([("number", self.chance.choice(NUMBERS)), *(("constant", name) for name in self.constants), *(("value", name) for name in scope.values)])
+
     def leave(self, scope):
-        return ("leave", self.chance.choice(["fail", *([] if scope.in_part else ["return"]), *(["break"] if scope.loops else [])]))
+        word = self.chance.choice(["fail", "fail", *([] if scope.in_part else ["return"]), *(["break"] if scope.loops else [])])
+        return ("leave", word, self.code(scope) if word == "fail" else None)
+
+    def heard(self, scope, made):
+        """A block, and the name that has the code of the failure in it, or None."""
+        if len(scope.values) >= VALUES or self.often(0.5):
+            return made(scope), None
+        inner, why = scope.inner(), self.name("w")
+        inner.values.append(why)
+        return made(inner), why
 
     def own_else(self, scope, leaves=False):
         """The `else` of a statement, or None. That of a declaration doesn't reach its end."""
         if self.often(0.6):
             return None
-        if leaves:
-            return ("block", [*self.block(scope, 0, 1), self.leave(scope)]) if self.often(0.5) else self.leave(scope)
-        return ("block", self.block(scope, 1, 1)) if self.often(0.7) else self.leave(scope)
+        if self.often(0.3):
+            return self.leave(scope)
+        return ("block", *self.heard(scope, lambda inner: [*self.block(inner, 0, 1), self.leave(inner)] if leaves else self.block(inner, 1, 1)))
 
     def block(self, scope, depth, most=4, may_leave=False):
         inner = scope.inner()
@@ -126,7 +148,7 @@ class Texts:
         if depth > 0:
             kinds += [self.chosen, self.tried, self.nested, self.repeated, self.repeated, self.repeated_while, self.locked, self.locked_two, self.each_child, self.chosen_by_lock, self.used_part]
         made = self.chance.choice(kinds)(scope, depth - 1)
-        return made or ("require", ("compare", "<", ("number", 0), ("number", 1)), None)
+        return made or ("require", ("compare", "<", ("number", 0), ("number", 1)), None, None)
 
     def declared(self, scope, _):
         if len(scope.values) >= VALUES:
@@ -154,13 +176,13 @@ class Texts:
         return ("emit", [self.number(scope) for _ in range(count)], self.own_else(scope))
 
     def required(self, scope, _):
-        return ("require", self.condition(scope, 1), self.own_else(scope))
+        return ("require", self.condition(scope, 1), self.code(scope), self.own_else(scope))
 
     def chosen(self, scope, depth):
         return ("if", self.condition(scope), self.block(scope, depth, may_leave=True), self.block(scope, depth) if self.often(0.5) else None)
 
     def tried(self, scope, depth):
-        return ("try", self.block(scope, depth), self.block(scope, depth))
+        return ("try", self.block(scope, depth), *self.heard(scope, lambda inner: self.block(inner, depth)))
 
     def nested(self, scope, depth):
         return ("block", self.block(scope, depth))
@@ -246,10 +268,10 @@ class Texts:
             writes = [(node, self.chance.randrange(FIELDS), "=", self.number(scope, 1)) for _ in range(self.chance.randrange(1, 4))]
             body += [("write", once_each(writes), None), ("emit", [("field", node, 0)], None)]
         other = None
-        if self.often(0.5):
+        if self.often(0.6):
             last = Scope(arguments, writes=not atomic)
             last.emits = scope.emits
-            other = self.block(last, 2)
+            other = ("block", *self.heard(last, lambda inner: self.block(inner, 2)))
         return Procedure(arguments, body, other, atomic)
 
 
@@ -306,10 +328,18 @@ def condition_text(condition):
     return f"({condition_text(condition[1])}) {kind} ({condition_text(condition[2])})"
 
 
+def leave_text(word, code):
+    return f"{word};" if code is None else f"{word} {number_text(code)};"
+
+
+def else_of(block, why):
+    return f" else {f'({why}) ' if why else ''}{block_text(block)}"
+
+
 def tail(other):
     if other is None:
         return ";"
-    return f" else {other[1]};" if other[0] == "leave" else f" else {block_text(other[1])}"
+    return f" else {leave_text(*other[1:])}" if other[0] == "leave" else else_of(*other[1:])
 
 
 def block_text(statements):
@@ -325,9 +355,9 @@ WRITTEN = {
     "assign": lambda name, sign, number, other: f"{name} {sign} {number_text(number)}{tail(other)}",
     "write": lambda writes, other: ", ".join(f"{node}.f{field} {sign} {number_text(number)}" for node, field, sign, number in writes) + tail(other),
     "emit": lambda numbers, other: f"emit {', '.join(map(number_text, numbers))}{tail(other)}",
-    "require": lambda condition, other: f"require {condition_text(condition)}{tail(other)}",
+    "require": lambda condition, code, other: f"require {condition_text(condition)}{'' if code is None else f' : {number_text(code)}'}{tail(other)}",
     "if": lambda condition, one, two: f"if {condition_text(condition)} {block_text(one)}{else_text(two)}",
-    "try": lambda one, two: f"try {block_text(one)} else {block_text(two)}",
+    "try": lambda one, two, why: f"try {block_text(one)}{else_of(two, why)}",
     "block": block_text,
     "repeat": lambda bound, often, body: f"repeat {bound if often is None else f'{number_text(often)} at most {bound}'} {block_text(body)}",
     "while": lambda condition, bound, body: f"while {condition_text(condition)} at most {bound} {block_text(body)}",
@@ -339,7 +369,7 @@ WRITTEN = {
     "use": lambda part, nodes, numbers, other: f"{part.name}({', '.join([*nodes, *map(number_text, numbers)])}){tail(other)}",
     "descend": lambda node, place, other: f"descend {node} to child({number_text(place)}){tail(other)}",
     "free": lambda node: f"free {node};",
-    "leave": lambda word: f"{word};",
+    "leave": leave_text,
 }
 
 
@@ -348,7 +378,7 @@ def written(constants, parts, procedure):
     lines = [f"field f{number} = {number};" for number in range(FIELDS)]
     lines += [f"const {name} = {value};" for name, value in constants.items()]
     lines += [f"part {part.name}({', '.join([*(f'node {name}' for name in part.nodes), *part.values])}) {block_text(part.body)}" for part in parts]
-    lines.append(f"{'atomic ' * procedure.atomic}proc p({', '.join(procedure.arguments)}) {block_text(procedure.body)}{else_text(procedure.other)}")
+    lines.append(f"{'atomic ' * procedure.atomic}proc p({', '.join(procedure.arguments)}) {block_text(procedure.body)}{'' if procedure.other is None else else_of(*procedure.other[1:])}")
     return "\n".join(lines) + "\n"
 
 
@@ -370,10 +400,9 @@ class Meaning:
         try:
             try:
                 self.block(procedure.body)
-            except Fails:
+            except Fails as failure:
                 assert not procedure.atomic or self.records == before, "an atomic procedure fails behind a write"
-                if procedure.other is not None:
-                    self.block(procedure.other)
+                self.handle(failure, procedure.other)
         except (Fails, Returns):
             pass
         return self.reply
@@ -397,7 +426,7 @@ class Meaning:
         left, right = self.number(number[1]), self.number(number[2])
         if kind == "/":
             if right == 0:
-                raise Fails
+                raise Fails(NUMBER)
             return fits(abs(left) // abs(right) * (1 if (left < 0) == (right < 0) else -1))
         return fits({"+": left + right, "-": left - right, "*": left * right}[kind])
 
@@ -422,12 +451,25 @@ class Meaning:
         """Does that; where it fails, control goes to the `else`, or on to the one around."""
         try:
             does()
+        except Fails as failure:
+            self.handle(failure, other)
+
+    def handle(self, failure, other):
+        if other is None:
+            raise failure
+        if other[0] == "leave":
+            self.leave_(*other[1:])
+        else:
+            block, why = other[1:]
+            self.names[why] = failure.code
+            self.block(block)
+
+    def coded(self, code, does):
+        """Does that; where it fails, the failure has this code."""
+        try:
+            return does()
         except Fails:
-            if other is None:
-                raise
-            if other[0] == "leave":
-                self.leave_(other[1])
-            self.block(other[1])
+            raise Fails(code) from None
 
     def computed(self, old, sign, number):
         return number if sign == "=" else fits(old + number if sign == "+=" else old - number)
@@ -453,18 +495,18 @@ class Meaning:
 
         self.or_else(emit, other)
 
-    def require_(self, condition, other):
+    def require_(self, condition, code, other):
         def require():
             if not self.holds(condition):
-                raise Fails
+                raise Fails(0 if code is None else self.number(code))
 
         self.or_else(require, other)
 
     def if_(self, condition, one, two):
         self.block(one if self.holds(condition) else two or [])
 
-    def try_(self, one, two):
-        self.or_else(lambda: self.block(one), ("block", two))
+    def try_(self, one, two, why):
+        self.or_else(lambda: self.block(one), ("block", two, why))
 
     def block_(self, statements):
         self.block(statements)
@@ -477,9 +519,9 @@ class Meaning:
             pass
 
     def repeat_(self, bound, often, body):
-        count = bound if often is None else self.number(often)
+        count = bound if often is None else self.coded(BOUND, lambda: self.number(often))
         if count > bound:
-            raise Fails
+            raise Fails(BOUND)
         self.turns(range(count), lambda _: self.block(body))
 
     def while_(self, condition, bound, body):
@@ -490,16 +532,16 @@ class Meaning:
 
         self.turns(range(bound), turn)
         if self.holds(condition):
-            raise Fails
+            raise Fails(BOUND)
 
     def entered(self, name, node):
         self.nodes[name], self.next[node] = node, 0
 
     def enter_(self, name, number, other):
         def enter():
-            node = self.number(number)
+            node = self.coded(NODE, lambda: self.number(number))
             if not 0 <= node < len(self.records):
-                raise Fails
+                raise Fails(NODE)
             self.entered(name, node)
 
         self.or_else(enter, other)
@@ -507,23 +549,23 @@ class Meaning:
     def lock_child(self, name, parent, place):
         node = self.nodes[parent]
         if not self.next[node] <= place < len(self.children[node]):
-            raise Fails
+            raise Fails(CHILD)
         self.next[node] = place + 1
         self.entered(name, self.children[node][place])
 
     def lock_(self, name, parent, place, other):
-        self.or_else(lambda: self.lock_child(name, parent, self.number(place)), other)
+        self.or_else(lambda: self.lock_child(name, parent, self.coded(CHILD, lambda: self.number(place))), other)
 
     def two_(self, names, parent, places, other):
         def lock():
-            numbers = [self.number(place) for place in places]
+            numbers = [self.coded(CHILD, lambda: self.number(place)) for place in places]
             for place, name in sorted(zip(numbers, names)):
                 self.lock_child(name, parent, place)
 
         self.or_else(lock, other)
 
     def descend_(self, node, place, other):
-        self.or_else(lambda: self.lock_child(node, node, self.number(place)), other)
+        self.or_else(lambda: self.lock_child(node, node, self.coded(CHILD, lambda: self.number(place))), other)
 
     def if_lock_(self, name, parent, place, one, two):
         try:
@@ -535,10 +577,10 @@ class Meaning:
     def each_(self, child, place, parent, bound, body):
         count = len(self.children[self.nodes[parent]])
         if count > bound:
-            raise Fails
+            raise Fails(CHILDREN)
 
         def turn(at):
-            self.lock_child(child, parent, at)
+            self.coded(CHILDREN, lambda: self.lock_child(child, parent, at))
             if place:
                 self.names[place] = at
             self.block(body)
@@ -557,11 +599,13 @@ class Meaning:
     def free_(self, _):
         pass
 
-    def leave_(self, word):
-        raise {"fail": Fails, "break": Breaks, "return": Returns}[word]
+    def leave_(self, word, code):
+        if word == "fail":
+            raise Fails(0 if code is None else self.number(code))
+        raise {"break": Breaks, "return": Returns}[word]
 
 
 def fits(number):
     if not LEAST <= number <= GREATEST:
-        raise Fails
+        raise Fails(NUMBER)
     return number
