@@ -18,6 +18,7 @@ import subprocess
 import time
 from typing import NamedTuple
 
+import treedb.tables
 from running import PATIENCE, TOP, Found, Hangs, before_program, files_of_repository, free_port, until
 from unproved import environment
 
@@ -117,11 +118,11 @@ def tried(tests, page):
     run_in(tests, page, tests.folder)
 
 
-def run_in(tests, page, folder):
-    """Runs the commands of a page in that folder, where `./treedb` is the program."""
+def run_in(tests, page, folder, changed=lambda text: text):
+    """Runs the commands of a page in that folder, where `./treedb` is the program; of the page as it is changed."""
     shell, port, control = Shell(folder), str(free_port()), str(free_port())
     try:
-        for step in steps((TOP / page).read_text().replace(PORT, port).replace(CONTROL, control)):
+        for step in steps(changed((TOP / page).read_text()).replace(PORT, port).replace(CONTROL, control)):
             if isinstance(step, File):
                 (folder / step.name).write_text(step.text)
                 continue
@@ -188,6 +189,23 @@ def test_limits(tests):
             found = [int(each) for path in (TOP / f"crates/{crate}/src").rglob("*.rt") for each in re.findall(rf"^pub const {name}: \w+ = ([\d_]+);", path.read_text(), re.MULTILINE)]
             tests.same(f"{page}: {what}: {name}", found, [number])
     assert tests.passed, f"{page} has no constants"
+
+
+def constants(name):
+    """The numbers of the constants of that name, by their crates."""
+    pattern = re.compile(rf"^pub const {name}: \w+ = ([\d_]+);", re.MULTILINE)
+    return {path.relative_to(TOP).parts[1]: int(found[1]) for path in TOP.glob("crates/*/src/**/*.rt") if (found := pattern.search(path.read_text()))}
+
+
+def test_limits_of_clients(tests):
+    """A table (CSV) has as many rows as the program takes nodes, and the second auditor takes what the first one does."""
+    most, usual = constants("MOST_NODES")["tl_arguments"], constants("USUAL_NODES")["tl_tree"]
+    tests.same("tables", (treedb.tables.MAX_NODES, treedb.tables.USUAL_NODES), (most, usual))
+    told = [re.split(", ", part) for line in re.findall(r"^[A-Z_, ]+ = [\d_, ]+$", (TOP / "fuzz/audit.py").read_text(), re.MULTILINE) for part in line.split(" = ")]
+    auditor = {name: int(number) for names, numbers in zip(told[::2], told[1::2], strict=True) for name, number in zip(names, numbers, strict=True)}
+    wanted = {"USUAL_NODES": usual, "MAX_NODES": most, "MAX_CALLS": constants("MAX_CALLS")["tl_history"], "MAX_EVENTS": constants("MAX_EVENTS")["tl_history"], "MAX_REPLY": constants("MAX_EMITS")["tl_budget"],
+              "MAX_PROCEDURES": constants("MAX_PROCEDURES")["tl_procedures"], "MAX_TRAILS": constants("MAX_TRAILS")["tl_trail"]}
+    tests.same("the second auditor", auditor, wanted)
 
 
 def anchors(page):

@@ -2,6 +2,7 @@
 
 import os
 import pathlib
+import re
 import shutil
 import stat
 import subprocess
@@ -30,7 +31,7 @@ def root(program):
 
 def test_what_is_installed(tests, root):
     pages = root / "usr/share/doc/treedb"
-    for name in ("usr/bin/treedb", "usr/bin/treedb-shell", "usr/lib/sysusers.d/treedb.conf", "usr/share/treedb/viewer/index.html", "usr/share/doc/treedb/examples/stock/tree.json"):
+    for name in ("usr/bin/treedb", "usr/bin/treedb-serve", "usr/lib/sysusers.d/treedb.conf", "usr/share/treedb/viewer/index.html", "usr/share/doc/treedb/examples/stock/tree.json"):
         tests.check(name, (root / name).is_file(), "it isn't there")
     wrong = [str(path.relative_to(root)) for path in (root / "usr").rglob("*") if not path.is_symlink() and not path.stat().st_mode & stat.S_IROTH]
     tests.same("what others can't read", wrong, [])
@@ -50,9 +51,25 @@ def test_the_front_page(tests, root):
     run_in(tests, "README.md", root / "usr/share/doc/treedb")
 
 
-def test_the_shell(tests, root):
+def test_a_tree_of_ones_own(tests, root):
+    """From a table (CSV) to a server on its tree, by the installed program, which needs no `--unproved`."""
+    pages = root / "usr/share/doc/treedb"
+    page = pages / "docs/use/own-tree.md"
+    with tempfile.TemporaryDirectory() as folder:
+        for name in ("treedb", "clients", "viewer"):
+            pathlib.Path(folder, name).symlink_to((pages / name).resolve())
+        run_in(tests, page, pathlib.Path(folder), lambda text: text.replace("./treedb --unproved ", "./treedb "))
+
+
+def test_the_programs_of_the_client(tests, root):
+    """Those that the client's package has, and no others, each under its name."""
+    programs = re.findall(r"^(treedb-\w+) = ", (TOP / "clients/python/pyproject.toml").read_text(), re.MULTILINE)
+    tests.same("their names", sorted(path.name for path in (root / "usr/bin").iterdir()), sorted(["treedb", "treedb-serve", *programs]))
+    for name in programs:
+        done = subprocess.run([root / "usr/bin" / name, "--help"], capture_output=True, text=True, timeout=PATIENCE, check=False)
+        tests.check(f"{name} runs", done.returncode == 0 and f"usage: {name} " in done.stdout, done)
     done = subprocess.run([root / "usr/bin/treedb-shell", "-c", "explain 611"], capture_output=True, text=True, timeout=PATIENCE, check=False)
-    tests.check("it runs", done.returncode == 0 and "choose another name" in done.stdout, done)
+    tests.check("the shell", done.returncode == 0 and "choose another name" in done.stdout, done)
 
 
 def completed(root, *words):

@@ -1,10 +1,13 @@
 """Tests that the repository stays tidy: what is too long, or called by nobody, stands in tests/tidiness.json with a reason, and that list only gets shorter."""
 
 import collections
+import functools
 import json
 import re
 
 from running import TOP
+from walking import Program
+from walking import functions as functions_of
 
 # How many lines a function's body and a file may have, how many columns a line of a contract, and how many words a sentence of a page for users.
 MOST_LINES, MOST_OF_A_FILE, MOST_COLUMNS, MOST_WORDS = 42, 500, 160, 35
@@ -17,27 +20,17 @@ def sources():
     return {str(path.relative_to(TOP)): path.read_text(encoding="utf-8") for path in sorted((TOP / "crates").glob("*/src/**/*.rt"))}
 
 
-def functions(text):
-    """The names of a file's functions, and how many lines the body of each has. The layout is that of `rt fmt`, so a body ends with a brace below its first word."""
-    lines = text.splitlines()
-    for start, line in enumerate(lines):
-        found = re.match(r"(\s*)(?:pub(?:\(\w+\))? )?(?:const )?fn (\w+)", line)
-        if not found:
-            continue
-        indent = found[1]
-        begins = next((place for place in range(start, len(lines)) if lines[place] == indent + "{" or re.match(rf"{indent}(?:fn|pub|\)|where).*(?:{{|;)$", lines[place])), None)
-        if begins is None or lines[begins].endswith(";"):
-            continue
-        ends = next((place for place in range(begins, len(lines)) if lines[place] == indent + "}"), begins)
-        yield found[2], ends - begins + 1
-
-
 def sentences(text):
     """The sentences of a page, without code, tables and headings."""
     text = re.sub(r"```.*?```", "", text, flags=re.DOTALL)
     text = re.sub(r"^(?: {4}|\||#).*$", "", text, flags=re.MULTILINE)
     for part in re.split(r"\n\s*\n|\n- |\n\d+\. ", text):
         yield from re.split(r"(?<=[.!?:;])\s+(?=[A-Z`*\[(])", " ".join(part.split()))
+
+
+def lengths(path, text):
+    """The names of a file's functions, and how many lines the body of each has."""
+    return [(function.name, function.lines) for function in functions_of(path, text)]
 
 
 def compare(tests, kind, found):
@@ -51,7 +44,7 @@ def compare(tests, kind, found):
 
 
 def test_functions(tests):
-    compare(tests, "functions", {f"{path}::{name}": lines for path, text in sources().items() for name, lines in functions(text) if lines > MOST_LINES})
+    compare(tests, "functions", {f"{path}::{name}": lines for path, text in sources().items() for name, lines in lengths(path, text) if lines > MOST_LINES})
 
 
 def test_files(tests):
@@ -73,30 +66,44 @@ def test_sentences(tests):
     compare(tests, "sentences", {page: count for page, count in long.items() if count})
 
 
-def test_public_functions(tests):
-    """Public functions that no other line of any crate names. A law is called by nobody: it is a theorem."""
-    texts = sources()
-    words = collections.Counter(re.findall(r"\w+", "\n".join(texts.values())))
-    compare(tests, "uncalled", {f"{path}::{name}": 1 for path, text in texts.items() if not path.endswith("/laws.rt") for name in re.findall(r"^\s*pub (?:const )?fn (\w+)", text, re.MULTILINE) if words[name] == 1})
-
-
 def crates():
     """The crates that each line of crates.txt names: a crate, and those that it stands on."""
     lines = [line for line in (TOP / "crates.txt").read_text(encoding="utf-8").splitlines() if line and not line.startswith("#")]
     return {line.split()[0].rstrip(":"): set(line.partition(":")[2].split()) for line in lines}
 
 
-def test_called_by_no_command(tests):
-    """What a crate's page says no command calls: of all of a crate, the program doesn't stand on it; of functions, there are such, and others of the crate may call them."""
-    program = {"tl_cli", *crates()["tl_cli"]}
-    texts = sources()
+@functools.cache
+def program():
+    """The functions of the program's crates, and those that a command may come to."""
+    walked = Program(sources(), crates())
+    return [function for function in walked.functions if function.crate in {"tl_cli", *crates()["tl_cli"]}], walked.reached("tl_cli", "main")
+
+
+def uncalled_by_page():
+    """What the page of each crate says no command calls: the words, and the functions that begin a sentence of them."""
     for page in sorted((TOP / "crates").glob("*/README.md")):
-        crate = page.parent.name
         found = re.search(r"^## Called by no command\n(.*?)(?=^## |^What it promises|\Z)", page.read_text(encoding="utf-8"), re.MULTILINE | re.DOTALL)
-        if not found:
-            continue
-        if "All of it." in found[1]:
-            tests.check(f"{crate}: the program doesn't stand on it", crate not in program, found[1])
-        own = "\n".join(text for path, text in texts.items() if path.split("/")[1] == crate)
-        for name in re.findall(r"^`(?:\w+::)?(\w+)`", found[1], re.MULTILINE):
-            tests.check(f"{crate}: there is `{name}`", re.search(rf"\b(?:fn|struct|enum|trait) {name}\b", own) is not None, found[1])
+        if found:
+            begun = re.findall(r"(?:^|\. )((?:`(?:\w+::)?\w+`(?:, | and )?)+)", found[1], re.MULTILINE)
+            yield page.parent.name, found[1], re.findall(r"(\w+)`", " ".join(begun))
+
+
+def test_public_functions(tests):
+    """Public functions that no command comes to, and whose page doesn't say so. A law has no body, and is called by nobody."""
+    told = {(crate, name) for crate, _, names in uncalled_by_page() for name in names}
+    of_program, reached = program()
+    tests.check("there are functions", len(of_program) > 2000 and 0 < len(reached) < len(of_program), (len(of_program), len(reached)))
+    compare(tests, "uncalled", collections.Counter(f"{it.path}::{it.name}" for it in of_program if it.is_public and not it.is_law and it not in reached and (it.crate, it.name) not in told))
+
+
+def test_called_by_no_command(tests):
+    """What a crate's page says no command calls: of all of a crate, the program doesn't stand on it; of functions, no command comes to them."""
+    (of_program, reached), called = program(), collections.Counter()
+    for crate, words, names in uncalled_by_page():
+        if "All of it" in words:
+            tests.check(f"{crate}: the program doesn't stand on it", crate not in {"tl_cli", *crates()["tl_cli"]}, words)
+        for name in names:
+            functions = [it for it in of_program if (it.crate, it.name) == (crate, name)]
+            tests.check(f"{crate}: there is `{name}`", functions, words)
+            called[f"{crate}::{name}"] = sum(it in reached for it in functions)
+    compare(tests, "called", +called)

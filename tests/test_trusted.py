@@ -4,6 +4,7 @@ import re
 import subprocess
 
 from running import TOP, Counts, fixture
+from test_tidiness import program
 
 PAGE = TOP / "docs/trust/what-to-read.md"
 # By the file's crate and name.
@@ -46,6 +47,14 @@ def test_the_counts(tests):
     for kind, told in zip(("specs", "proofs"), re.search(r"have ([\d,]+) lines, and those of `proofs/`, .*, ([\d,]+)\.", page).groups(), strict=True):
         counted = subprocess.run(f"find {TOP}/crates/*/{kind} -name '*.antt' -exec cat {{}} + | wc -l", shell=True, capture_output=True, text=True, check=True).stdout
         tests.same(f"the lines of {kind}", int(told.replace(",", "")), int(counted))
+
+
+def test_what_is_called(tests):
+    """The clauses are of functions that the program calls, and of laws: what nothing calls says nothing of a run."""
+    of_program, reached = program()
+    for function, path in re.findall(r"`(\w+)` in `crates/(\S+)`", "\n".join(re.findall(r"^By .*$", PAGE.read_text(), re.MULTILINE))):
+        found = [it for it in of_program if (it.path, it.name) == (f"crates/{path}", function)]
+        tests.check(f"{function} of {path}", found and all(it.is_law or it in reached for it in found), found)
 
 
 def test_the_text(tests):
