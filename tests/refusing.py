@@ -6,6 +6,7 @@ A refusal is made by a small C library in the place of `malloc`, which is compil
 import os
 
 from running import compiled
+from unproved import without_proofs
 
 # Refuses the allocation whose number REFUSE gives, counted from 1, and each one behind it where REFUSE_ALL is set. It tells
 # on the file descriptor 99 whether it came to that.
@@ -46,7 +47,8 @@ int posix_memalign(void **to, size_t align, size_t size) {
 
 
 def library(folder):
-    """The C library that refuses allocations; what needs it is skipped where there is no compiler."""
+    """The C library that refuses allocations; what needs it is skipped where there is no compiler, and where the program isn't proved."""
+    without_proofs()
     source = folder / "refusing.c"
     source.write_text(SOURCE)
     return compiled(source, folder)

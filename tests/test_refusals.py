@@ -18,6 +18,7 @@ import tempfile
 
 import refusing
 from running import PATIENCE, TOP, Counts, fixture, program_named
+from unproved import without_proofs
 
 ADMITTED, DONE = "all calls are admitted\n", "all steps are done"
 NO_MEMORY = 4
@@ -39,6 +40,7 @@ class Checks(Counts):
 
 @fixture
 def tests():
+    without_proofs()
     return Checks(program_named("TREEDB_MEMORY", "tl_test_memory", "rt run in crates/tl_test_memory"))
 
 

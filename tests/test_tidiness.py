@@ -21,8 +21,11 @@ def sources():
 
 
 def sentences(text):
-    """The sentences of a page, without code, tables and headings."""
+    """The sentences of a page, without code and headings. In a cell of a table a semicolon parts them too."""
     text = re.sub(r"```.*?```", "", text, flags=re.DOTALL)
+    for row in re.findall(r"^\|(.*)\|$", text, re.MULTILINE):
+        for cell in re.split(r"(?<!\\)\|", row):
+            yield from re.split(r"(?<=;)\s+|(?<=[.!?:])\s+(?=[A-Z`*\[(])", cell.strip())
     text = re.sub(r"^(?: {4}|\||#).*$", "", text, flags=re.MULTILINE)
     for part in re.split(r"\n\s*\n|\n- |\n\d+\. ", text):
         yield from re.split(r"(?<=[.!?:;])\s+(?=[A-Z`*\[(])", " ".join(part.split()))

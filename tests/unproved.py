@@ -1,7 +1,10 @@
 """A kit whose `rt try` runs a program that was built before, so that tests may use `treedb --unproved` as a newcomer does: what is built is kept in a folder of theirs."""
 
 import os
+import pathlib
 import re
+
+from running import skip
 
 # It runs the program, as `rt try` does, and writes down that it was asked to.
 RT = """#!/usr/bin/env bash
@@ -10,6 +13,17 @@ shift
 echo "$1" >> {told}
 {program} "$@"
 """
+
+
+# What a script of tools/unproved has: the program that it runs has a sanitizer.
+SANITIZED = b"\nexport ASAN_OPTIONS="
+
+
+def without_proofs():
+    """Skips what an unproved program can't do: no memory can be refused to it."""
+    program = os.environ.get("TREEDB_PROGRAM")
+    if program and SANITIZED in pathlib.Path(program).read_bytes()[:4096]:
+        skip("no memory can be refused to a program that is built without proofs")
 
 
 def environment(folder, program):
