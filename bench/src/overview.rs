@@ -60,7 +60,7 @@ impl fmt::Display for Overview<'_> {
             writeln!(out, "| {words} | {} | {} |", row.ratio(), row.asked())?;
         }
         let [met, level, short] = [Verdict::Met, Verdict::Level, Verdict::Short].map(|verdict| self.count(verdict));
-        writeln!(out, "\nOf the {} goals below {met} are met, {level} are level and {short} are short.", met + level + short)
+        writeln!(out, "\nOf the {} goals below {met} are met, {level} are on par and {short} are short.", met + level + short)
     }
 }
 
@@ -75,7 +75,7 @@ mod tests {
         let parts = [Part::new("A call alone", "twin", vec![row("a loop of arithmetic, 7 steps", 20.0), row("other", 1.0)])];
         let text = Overview(&parts).to_string();
         assert!(text.contains("| one call alone, arithmetic (`alone`) | 2.00 | at least 0.9: met |"), "{text}");
-        assert!(text.contains("Of the 2 goals below 1 are met, 0 are level and 1 are short."), "{text}");
+        assert!(text.contains("Of the 2 goals below 1 are met, 0 are on par and 1 are short."), "{text}");
         assert!(Overview(&[]).to_string().is_empty());
     }
 }

@@ -22,7 +22,7 @@ impl fmt::Display for Verdict {
     fn fmt(&self, out: &mut fmt::Formatter<'_>) -> fmt::Result {
         out.write_str(match self {
             Verdict::Met => "met",
-            Verdict::Level => "level",
+            Verdict::Level => "on par",
             Verdict::Short => "**short**",
         })
     }
@@ -292,11 +292,11 @@ impl fmt::Display for Table {
 
 All is measured {} times, from the first row to the last, each time in at least {} rounds. In a round the sides do the same work in turn on
 one processor, the next round on the next one and beginning with another side; short work is done again and again, and the fastest run is
-a side's round. Where it takes little time there are more rounds. A number is the middle of a side's rounds. A ratio is the middle of the
+a side's round. Where it takes little time there are more rounds. A number is the median of a side's rounds. A ratio is the median of the
 rounds' ratios, each of one round's two numbers, and not the ratio of the two numbers before it: what else a machine does disturbs both
 sides of a round. The quartiles of these ratios stand behind it. Where the goal says *at least* or *times as fast*, a ratio is the second
 number by the first, which is the product's speed by the other's; else it is the first by the second. Within a tenth of a goal the
-verdict is *level*.",
+verdict is *on par*.",
             rounds::PASSES,
             rounds::ROUNDS
         )?;

@@ -7,7 +7,7 @@ use crate::rounds::{Entry, Results, Times};
 use crate::spread::{middle, Spread};
 use crate::ways::Way;
 
-/// How near to one another two speeds are that are called level.
+/// How near to one another two speeds are that are called on par.
 const LEVEL: f64 = 0.1;
 
 /// The place of treedb among the sides.
@@ -62,7 +62,7 @@ pub fn verdict(ratio: f64, theirs: &str) -> String {
     match ratio {
         ratio if ratio > 1.0 + LEVEL => format!("treedb, {} times", short(ratio)),
         ratio if 1.0 / ratio > 1.0 + LEVEL => format!("{theirs}, {} times", short(1.0 / ratio)),
-        _ => "level".to_string(),
+        _ => "on par".to_string(),
     }
 }
 
@@ -139,7 +139,7 @@ impl Tables<'_> {
         Ok(())
     }
 
-    /// The rates in the middle round, each written in some form.
+    /// The rates in the median round, each written in some form.
     fn put_rates(&self, out: &mut Formatter<'_>, written: fn(f64) -> String) -> fmt::Result {
         head(out, ["Work".to_string()].into_iter().chain(self.names(0..self.names.len())).collect())?;
         let cell = |side, work, way| match self.times(side, work, way) {
@@ -176,12 +176,12 @@ impl Tables<'_> {
         let columns: [(&str, &[Way]); 4] = [
             ("one by one", &[Way::OneByOne]),
             ("pipelined", &[Way::Pipelined]),
-            ("best batch, beside pipelined", &batches),
+            ("best batch, against pipelined", &batches),
             ("eight connections", &[Way::Eight]),
         ];
         let columns: Vec<_> = columns.into_iter().filter(|(_, ways)| ways.iter().any(|way| self.ways.contains(way))).collect();
         let names = columns.iter().map(|(name, _)| name.to_string());
-        head(out, ["Work, beside".to_string()].into_iter().chain(names).collect())?;
+        head(out, ["Work, against".to_string()].into_iter().chain(names).collect())?;
         for &work in self.works {
             for side in self.others() {
                 let cells: Vec<String> = columns.iter().map(|(_, ways)| self.verdict_cell(side, work, ways)).collect();
@@ -210,8 +210,8 @@ impl Display for Summary<'_> {
         let Made { date, machine, .. } = tables.made;
         writeln!(
             out,
-            "treedb's server beside those that its users would pick instead, over a socket of {machine}: which is faster, and how many times
-as fast; within a tenth it is *level*. `add` locks one node, `path` five and `sum` nine; `long` computes for 25,000 instructions on two.
+            "treedb's server compared with those that its users would pick instead, over a socket of {machine}: which is faster, and how many times
+as fast; within a tenth it is *on par*. `add` locks one node, `path` five and `sum` nine; `long` computes for 25,000 instructions on two.
 Made by `bench/peers/run` on {date}; `bench/peers/results.md` has the versions, the settings and all numbers.\n"
         )?;
         tables.put_verdicts(out)
@@ -221,7 +221,7 @@ Made by `bench/peers/run` on {date}; `bench/peers/results.md` has the versions, 
 impl Display for Tables<'_> {
     fn fmt(&self, out: &mut Formatter<'_>) -> fmt::Result {
         let Made { date, machine, product, rounds, .. } = self.made;
-        writeln!(out, "# Beside other servers\n\nMade by `bench/peers/run` on {date}, on {machine}, in {rounds} rounds. treedb is {product}.\n")?;
+        writeln!(out, "# Compared with other servers\n\nMade by `bench/peers/run` on {date}, on {machine}, in {rounds} rounds. treedb is {product}.\n")?;
         self.put_sides(out)?;
         writeln!(out, "\n## Which is faster, and how many times as fast\n")?;
         self.put_verdicts(out)?;
@@ -229,11 +229,11 @@ impl Display for Tables<'_> {
             out,
             "\n## Ratios
 
-treedb's calls a second by the other's: the middle of the rounds' ratios, and their quartiles in brackets. Above 1 treedb is faster; where
-the other is faster by more than a tenth the number is bold. Beside a batch the other's requests are pipelined.\n"
+treedb's calls a second by the other's: the median of the rounds' ratios, and their quartiles in brackets. Above 1 treedb is faster; where
+the other is faster by more than a tenth the number is bold. Against a batch the other's requests are pipelined.\n"
         )?;
         self.put_ratios(out)?;
-        writeln!(out, "\n## Calls\n\n1,000 calls a second, in the middle round.\n")?;
+        writeln!(out, "\n## Calls\n\n1,000 calls a second, in the median round.\n")?;
         self.put_rates(out, thousands)?;
         writeln!(out, "\n## Waiting\n\nHalf of all calls, and 99 of 100, are answered within so many microseconds.\n")?;
         self.put_waits(out)?;
@@ -253,11 +253,11 @@ impl Display for Durable<'_> {
         let Made { date, machine, product, rounds, .. } = tables.made;
         writeln!(
             out,
-            "# Calls that are stored before they are answered, beside others
+            "# Calls that are stored before they are answered, compared with others
 
 Made by `bench/peers/run --durable` on {date}, on {machine}, in {rounds} rounds. treedb is {product}.
 
-All files stand on {name}. There a write of 4,096 bytes behind the end of a file took {sync:.0} microseconds with its sync, before the first round.\n"
+All files stand on {name}. There a write of 4,096 bytes after the end of a file took {sync:.0} microseconds with its sync, before the first round.\n"
         )?;
         tables.put_sides(out)?;
         writeln!(out, "\n## Which is faster, and how many times as fast\n")?;
@@ -266,11 +266,11 @@ All files stand on {name}. There a write of 4,096 bytes behind the end of a file
             out,
             "\n## Ratios
 
-treedb's calls a second by the other's: the middle of the rounds' ratios, and their quartiles in brackets. Above 1 treedb is faster; where
+treedb's calls a second by the other's: the median of the rounds' ratios, and their quartiles in brackets. Above 1 treedb is faster; where
 the other is faster by more than a tenth the number is bold. SQLite has neither pipelined requests nor connections.\n"
         )?;
         tables.put_ratios(out)?;
-        writeln!(out, "\n## Calls\n\nCalls a second, in the middle round.\n")?;
+        writeln!(out, "\n## Calls\n\nCalls a second, in the median round.\n")?;
         tables.put_rates(out, |rate| format!("{rate:.0}"))?;
         writeln!(out, "\n## Waiting\n\nHalf of all calls, and 99 of 100, are answered within so many microseconds.\n")?;
         tables.put_waits(out)?;
@@ -303,7 +303,7 @@ mod tests {
 
     #[test]
     fn verdicts_in_words() {
-        let cases = [(1.0, "level"), (1.09, "level"), (1.5, "treedb, 1.5 times"), (0.92, "level"), (0.5, "Redis, 2.0 times")];
+        let cases = [(1.0, "on par"), (1.09, "on par"), (1.5, "treedb, 1.5 times"), (0.92, "on par"), (0.5, "Redis, 2.0 times")];
         for (ratio, words) in cases {
             assert_eq!(verdict(ratio, "Redis"), words);
         }
@@ -368,9 +368,9 @@ mod tests {
         };
         let told = Durable { tables: &tables, disk: &Disk { name: "a disk".into(), sync: 812.4 } }.to_string();
         let wanted = [
-            "All files stand on a disk. There a write of 4,096 bytes behind the end of a file took 812 microseconds",
+            "All files stand on a disk. There a write of 4,096 bytes after the end of a file took 812 microseconds",
             "- **SQLite**: `PRAGMA synchronous=FULL`.\n- Redis isn't installed",
-            "| Work, beside | one by one | pipelined | eight connections |",
+            "| Work, against | one by one | pipelined | eight connections |",
             "| `add`, SQLite | treedb, 1.5 times |  |  |",
             "| `add`, eight connections | 900 |  |",
             "| `add`, one by one | 2, 2 | 3, 3 |",

@@ -104,6 +104,11 @@ class Commands(unittest.TestCase):
         self.assertEqual(self.ran("status", is_json=True), (0, json.dumps(TOLD, separators=(",", ":")) + "\n", ""))
         self.assertEqual(self.ran("status", "stop")[1].splitlines()[-2:], ["browsers 0", "the server is stopping"])
 
+    def test_what_the_server_was_not_started_for(self):
+        status, _, said = self.ran("snapshot monday.db")
+        self.assertEqual(status, 1)
+        self.assertIn("what to do: start the server with --store and --snapshots", said)
+
     def test_explaining(self):
         self.assertIn("what to do: choose another name", self.ran("explain 611")[1])
         self.assertEqual([self.ran(f"explain {word}")[0] for word in ("1", "six")], [1, 1])

@@ -266,7 +266,7 @@ def ls(shell: Shell, words: list[str]) -> None:
 
 def procedures(shell: Shell, _: list[str]) -> None:
     lines = [str(known) for _, known in sorted(shell.known.items())]
-    shell.say(lines or ["none that this shell knows: register tells it of those of a file"],
+    shell.say(lines or ["none that this shell knows: --text FILE and register tell it of those of a file"],
               {name: {"arguments": known.procedure.arguments, "bounds": known.bounds._asdict() if known.bounds else None} for name, known in shell.known.items()})
 
 
@@ -339,6 +339,11 @@ COMMANDS: dict[str, Command] = {command.usage.split()[0]: command for command in
     Command("help [command]", "prints the commands", help_with, ("command",)),
     Command("quit", "ends the shell", leave),
 )}
+
+
+IN_SESSIONS = "this server is in session mode (--connections), which has no such request"
+# What to do where the server doesn't know what a command asks for.
+UNKNOWN = {"snapshot": "start the server with --store and --snapshots: this one makes no copies", **dict.fromkeys(("register", "replace", "grow", "status"), IN_SESSIONS)}
 
 
 # ---- words
@@ -442,7 +447,7 @@ def run(shell: Shell, lines: Iterable[str], goes_on: bool) -> int:
         except KeyboardInterrupt:
             worst = _told(shell, "interrupted; a call under way may have been done", 1)
         except Refused as refusal:
-            worst = max(worst, _told(shell, f"{refusal}\n  what to do: {refusal.advice}", 1, {"error": refusal.numbers}))
+            worst = max(worst, _told(shell, f"{refusal}\n  what to do: {_advice(refusal, line)}", 1, {"error": refusal.numbers}))
         except Unanswered as lost:
             worst = max(worst, _told(shell, str(lost), 3))
         except (Wrong, Error, OSError, ValueError, OverflowError) as fault:
@@ -450,6 +455,11 @@ def run(shell: Shell, lines: Iterable[str], goes_on: bool) -> int:
         if worst and not goes_on:
             break
     return worst
+
+
+def _advice(refusal: Refused, line: str) -> str:
+    """What to do after a refusal of a command: a server that doesn't know the request was started without what it takes."""
+    return UNKNOWN.get(line.split()[0], refusal.advice) if refusal.number == 901 else refusal.advice
 
 
 def _told(shell: Shell, said: str, exit_status: int, value: Any = None) -> int:
