@@ -210,6 +210,22 @@ def test_a_slow_peer_of_the_control(tests):
         tests.check("the control answers behind a slow peer", told.status == 0, told)
 
 
+def test_the_control_from_node(tests):
+    """The client for Node.js asks the control: the status, a copy that this server doesn't make, and the end."""
+    node = tool("node")
+    with serving(tests, connections=None) as server:
+        Peer(server.port).ask(ADD)
+        script = f"""
+            import {{ Client }} from "{TOP}/clients/javascript/treedb.mjs";
+            const to = {{ port: {server.control} }}, {{ procedures, nodes }} = await Client.status(to);
+            const refused = await Client.snapshot("copy.db", to).catch((reason) => reason.number);
+            await Client.stop(to);
+            console.log(JSON.stringify([procedures, nodes, refused]));"""
+        done = subprocess.run([node, "--input-type=module", "-e", script], stdin=subprocess.DEVNULL, capture_output=True, text=True, timeout=PATIENCE, check=False)
+        tests.same("what it says", (done.stdout, done.stderr), ("[1,1,901]\n", ""))
+        tests.same("the server's end", server.end().status, 0)
+
+
 def waiting(tests, control):
     """A `status --wait` that waits, and what it says in the end."""
     words = [tests.program, "status", "--wait", "--port", str(control)]

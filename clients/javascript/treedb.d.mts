@@ -90,6 +90,12 @@ export class Client {
   constructor(socket: import("node:net").Socket, timeout?: number, to?: ConnectOptions | null);
   static connect(options: ConnectOptions): Promise<Client>;
   static connect(port: number, host?: string): Promise<Client>;
+  /** What a server says of itself, asked at its control. */
+  static status(to: ConnectOptions): Promise<Record<string, number>>;
+  /** Has a server with a store copy it into the file of that name, asked at its control. */
+  static snapshot(name: string, to: ConnectOptions): Promise<void>;
+  /** Asks a server to end, at its control. */
+  static stop(to: ConnectOptions): Promise<void>;
   /** Whether there is a connection, as far as this client knows. */
   readonly isOpen: boolean;
   /** Connects anew to where the client was made for, if there is no connection. */

@@ -214,6 +214,40 @@ export class Client {
     return new Client(await opened(asked), asked.timeout ?? TIMEOUT, asked);
   }
 
+  /**
+   * What a server says of itself, asked at its control: `{ port }` or `{ path }`. It answers `{ epoch, generation, calls, connections, nodes, procedures, .. }`; in session mode a server
+   * refuses it (901).
+   */
+  static status(to) {
+    return Client.#told("status", to);
+  }
+
+  /**
+   * Has a server with a store copy it into the file of that name, in the folder of its `--snapshots`, asked at its control. The copy is whole when this is done. A name that isn't one, or that a
+   * file has, is refused with 1010, and a server that makes no copies refuses with 901.
+   */
+  static async snapshot(name, to) {
+    if (text(name).includes("\\n")) throw new TypeError("a copy's name is one line");
+    await Client.#told(`snapshot ${name}`, to);
+  }
+
+  /** Asks a server to end, at its control. It answers what it has read, and then ends. */
+  static async stop(to) {
+    await Client.#told("stop", to);
+  }
+
+  // The answer to a word at a control.
+  static async #told(word, to) {
+    const control = await Client.connect(to);
+    try {
+      return await control.#ask(word);
+    } finally {
+      control.#isClosed = true;
+      control.#end(new Disconnected("the connection is closed"));
+      control.#socket.destroy();
+    }
+  }
+
   /** Whether there is a connection, as far as this client knows. */
   get isOpen() {
     return this.#ended === null;

@@ -221,6 +221,19 @@ test("a Unix socket", async () => {
   }
 });
 
+test("the control", async () => {
+  const told = { status: '{"epoch":3,"calls":9}\n', "snapshot monday.db": '{"snapshot":"monday.db"}\n', stop: '{"stopping":true}\n' };
+  const [, lines] = await serving((line) => told[line] ?? { error: [1010] }, async (to) => {
+    assert.deepEqual(await Client.status(to), { epoch: 3, calls: 9 });
+    await Client.snapshot("monday.db", to);
+    await assert.rejects(Client.snapshot("../monday.db", to), (refused) => refused instanceof Refused && refused.number === 1010);
+    await assert.rejects(Client.snapshot("monday\nstop", to), TypeError);
+    await Client.stop(to);
+  });
+  assert.deepEqual(lines, ["status", "snapshot monday.db", "snapshot ../monday.db", "stop"]);
+  await assert.rejects(Client.status({ port: 1 }), Disconnected);
+});
+
 test("a block closes the connection", async () => {
   const [, lines] = await serving(() => ({ call: 0, reply: [] }), async (to) => {
     const db = await Client.connect(to.port, "127.0.0.1");
