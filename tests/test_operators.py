@@ -210,6 +210,39 @@ def test_a_slow_peer_of_the_control(tests):
         tests.check("the control answers behind a slow peer", told.status == 0, told)
 
 
+# Adds nodes to the tree of a server, below a node that each program wants, and reads what the others have added.
+GROWING = """
+import sys, time, treedb
+port, who, many = int(sys.argv[1]), sys.argv[2], int(sys.argv[3])
+names = treedb.Names.load("shared.json", "shared.names")
+with treedb.Client(port=port) as db:
+    for number in range(many):
+        db.grow(names, [f"all/shop {who}/shelf {number}"])
+    end = time.monotonic() + 60
+    while not all(f"all/shop {other}/shelf {many - 1}" in names for other in "abc") and time.monotonic() < end:
+        time.sleep(0.01)
+    print(sorted(names[f"all/shop {other}/shelf {number}"] for other in "abc" for number in range(many)))
+"""
+
+
+def test_programs_that_share_names(tests, tree):
+    """Programs that share the files of a tree's names add nodes at once: each finds those of all, and the file has them."""
+    many = 4
+    tests.path("shared.names").write_text('[""]')
+    with serving(tests, connections=None, tree=tree({"parents": [0], "records": [[0] * 8]}, "shared.json")) as server:
+        env = {**os.environ, "PYTHONPATH": str(TOP / "clients/python")}
+        programs = [subprocess.Popen([sys.executable, "-c", GROWING, str(server.port), who, str(many)], cwd=tests.folder, env=env, stdout=subprocess.PIPE, stderr=subprocess.PIPE, text=True, preexec_fn=before_program())
+                    for who in "abc"]
+        said = [program.communicate(timeout=PATIENCE) for program in programs]
+        nodes = json.loads(server.status().out)["nodes"]
+        server.stop()
+        left = json.loads(server.end().out.splitlines()[-1])
+    tests.check("each finds those of all", len(set(said)) == 1 and said[0][1] == "", said)
+    names, parents = json.loads(tests.bytes("shared.names")), json.loads(tests.bytes("shared.names.parents"))
+    tests.same("the nodes", (len(names), parents), (nodes, left["parents"]))
+    tests.same("the names", sorted(names), sorted(["", "all", *(f"shop {who}" for who in "abc"), *(f"shelf {number}" for number in range(many) for _ in "abc")]))
+
+
 def test_the_control_from_node(tests):
     """The client for Node.js asks the control: the status, a copy that this server doesn't make, and the end."""
     node = tool("node")

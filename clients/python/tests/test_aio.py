@@ -140,6 +140,18 @@ class Async(unittest.IsolatedAsyncioTestCase):
                 self.assertEqual(await db.grow(names, ["north/aisle 1"]), [2])
         self.assertEqual(names["north/aisle 1"], 2)
 
+    async def test_growth_by_two_at_once(self):
+        """They take turns: neither holds up the loop, and the second finds what the first has added."""
+        with tempfile.TemporaryDirectory() as folder:
+            tree, file = pathlib.Path(folder, "tree.json"), pathlib.Path(folder, "names.json")
+            tree.write_text('{"parents":[0],"records":[]}')
+            file.write_text('[""]')
+            one, other = Names.load(tree, file), Names.load(tree, file)
+            with serving(answers({"grown": 1}, {"grown": 2}, {"grown": 3})) as server:
+                async with await AsyncClient.connect(port=server.port) as db:
+                    self.assertEqual(await asyncio.gather(db.grow(one, ["a/b"]), db.grow(other, ["a/c"])), [[2], [3]])
+            self.assertEqual((one["a/c"], other["a/b"], server.heard[2]["parents"]), (3, 2, [1]))
+
 
 if __name__ == "__main__":
     unittest.main()

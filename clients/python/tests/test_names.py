@@ -57,6 +57,45 @@ class NamesOfNodes(unittest.TestCase):
         with self.assertRaises(ValueError):
             names.append(6, ["west"])
 
+    def shared(self, folder: str) -> list[Names]:
+        """Names of three programs, by the same files."""
+        tree, file = pathlib.Path(folder, "tree.json"), pathlib.Path(folder, "names.json")
+        tree.write_text(json.dumps({"parents": PARENTS, "records": []}))
+        file.write_text(json.dumps(NAMES))
+        return [Names.load(tree, file) for _ in range(3)]
+
+    def test_programs_that_share_a_file(self):
+        with tempfile.TemporaryDirectory() as folder:
+            one, other, third = self.shared(folder)
+            one.append(6, ["west"])
+            self.assertEqual((other["west"], other.path(6), other.refresh()), (6, "west", False))
+            self.assertEqual(third.missing(["west/a"]), [["west/a"]])
+            # Node 7 is another client's, which has a file of its own.
+            third.append(8, ["west/a"])
+            self.assertEqual((one["west/a"], one.names[7:], one.parents[6:]), (8, ["", "a"], [0, 0, 6]))
+            with self.assertRaises(KeyError):
+                one["east"]
+            pathlib.Path(folder, "names.json").write_text(json.dumps(["x"] * 12))
+            pathlib.Path(folder, "names.json.parents").write_text(json.dumps([0] * 12))
+            with self.assertRaisesRegex(ValueError, "another tree"):
+                one.refresh()
+
+    def test_one_program_adds_names_at_a_time(self):
+        with tempfile.TemporaryDirectory() as folder:
+            one, other, third = self.shared(folder)
+            with one.turn() as turn:
+                self.assertTrue(turn.is_taken())
+                with other.turn() as later:
+                    self.assertFalse(later.is_taken())
+                    one.append(6, ["west"])
+                    self.assertFalse(later.is_taken())
+                    self.assertEqual(list(other)[6:], [])
+            with third.turn() as turn:
+                self.assertTrue(turn.is_taken(waits=True))
+                self.assertEqual(list(third)[6:], ["west"])
+        with self.names.turn() as turn, self.names.turn() as second:
+            self.assertEqual((turn.is_taken(), second.is_taken()), (True, True))
+
 
 class Tables(unittest.TestCase):
     def test_a_tree_of_a_table(self):

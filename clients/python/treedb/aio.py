@@ -18,6 +18,9 @@ from .texts import file_request
 
 __all__ = ["AsyncClient"]
 
+# After how many seconds it is asked again whether names may be added.
+PAUSE = 0.01
+
 
 class AsyncClient:
     """A connection to a server, for one event loop. Many tasks may use it at once.
@@ -116,8 +119,11 @@ class AsyncClient:
     async def grow(self, names: Names, paths: Iterable[str]) -> list[int]:
         """Adds a node for each of these paths, as `Client.grow` does."""
         asked = list(paths)
-        for level in names.missing(asked):
-            names.append((await self._ask(grow_request(names.parents_of(level))))["grown"], level)
+        with names.turn() as turn:
+            while not turn.is_taken():
+                await asyncio.sleep(PAUSE)
+            for level in names.missing(asked):
+                names.append((await self._ask(grow_request(names.parents_of(level))))["grown"], level)
         return [names[path] for path in asked]
 
     async def seal(self) -> int:

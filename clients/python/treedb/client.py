@@ -143,7 +143,7 @@ class Client:
     def grow(self, names: Names, paths: Iterable[str]) -> list[int]:
         """Adds a node for each of these paths, as `north/aisle 9`, and for each one above it that isn't there. Returns their numbers, in order.
 
-        The new records are zeros. `names` gets the new names after the answer, and so does the file that they were loaded from. In session mode a server
+        The new records are zeros. `names` gets the new names after the answer, and so does the file that they were loaded from; programs that share the file take turns. In session mode a server
         refuses with 901. A path that stands there already is a `ValueError`, and nothing is asked then. If the connection
         ends before the answer, nodes may be there that have no name.
 
@@ -151,8 +151,10 @@ class Client:
         add many nodes at once.
         """
         asked = list(paths)
-        for level in names.missing(asked):
-            names.append(self._ask(grow_request(names.parents_of(level)))["grown"], level)
+        with names.turn() as turn:
+            turn.is_taken(waits=True)
+            for level in names.missing(asked):
+                names.append(self._ask(grow_request(names.parents_of(level)))["grown"], level)
         return [names[path] for path in asked]
 
     def seal(self) -> int:

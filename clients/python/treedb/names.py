@@ -5,11 +5,13 @@ A tree's nodes have numbers alone. Names stay outside of the database: a file ha
 
 from __future__ import annotations
 
+import fcntl
 import json
 import os
 from collections.abc import Iterable, Iterator, Mapping
+from typing import Any
 
-__all__ = ["SEPARATOR", "Names", "printable"]
+__all__ = ["SEPARATOR", "Names", "Turn", "printable"]
 
 SEPARATOR = "/"
 
@@ -33,6 +35,8 @@ class Names(Mapping[str, int]):
         if len(parents) != len(names):
             raise ValueError(f"{len(names)} names for {len(parents)} nodes")
         self.parents, self.names, self.file = list(parents), list(names), file
+        # Which state of the file is known.
+        self._known = _state_of(file)
         self._paths: list[str | None] = []
         self._nodes: dict[str, int] = {}
         for node in range(len(names)):
@@ -41,7 +45,8 @@ class Names(Mapping[str, int]):
     @classmethod
     def load(cls, tree: str | os.PathLike[str], names: str | os.PathLike[str]) -> Names:
         """The names of two files: a tree, and a list of names. The second file gets the names that are added later, and a file beside it, whose name ends with `.parents`, the parents of all nodes: so
-        both may be loaded again, though the tree's file hasn't the nodes that were added."""
+        both may be loaded again, though the tree's file hasn't the nodes that were added. Programs of one machine may share the files: each finds what another one adds."""
+        known = _state_of(names)
         with open(tree, encoding="utf-8") as tree_file, open(names, encoding="utf-8") as names_file:
             parents, listed = json.load(tree_file)["parents"], json.load(names_file)
         if len(listed) > len(parents) and os.path.exists(_parents_file(names)):
@@ -50,7 +55,34 @@ class Names(Mapping[str, int]):
             if grown[: len(parents)] != parents:
                 raise ValueError(f"{_parents_file(names)} is of another tree")
             parents = grown[: len(listed)]
-        return cls(parents, listed, names)
+        loaded = cls(parents, listed, names)
+        loaded._known = known
+        return loaded
+
+    def refresh(self) -> bool:
+        """Takes what another program has added to the files. Returns whether there was anything. A path that isn't known is looked for so too."""
+        known = _state_of(self.file)
+        if self.file is None or known == self._known:
+            return False
+        # The parents are there before the names are.
+        with open(self.file, encoding="utf-8") as names_file:
+            listed = json.load(names_file)
+        had, self._known = len(self.names), known
+        if len(listed) <= had:
+            return False
+        with open(_parents_file(self.file), encoding="utf-8") as parents_file:
+            parents = json.load(parents_file)
+        if parents[:had] != self.parents:
+            raise ValueError(f"{self.file} is of another tree")
+        self.parents += parents[had : len(listed)]
+        self.names += listed[had:]
+        for node in range(had, len(listed)):
+            self._add(node)
+        return True
+
+    def turn(self) -> Turn:
+        """The right to add names, for a `with`."""
+        return Turn(self)
 
     def path(self, node: int) -> str:
         """The path of a node. The root's is empty. A node that isn't there, or has no path, is a `ValueError`."""
@@ -61,6 +93,8 @@ class Names(Mapping[str, int]):
 
     def __getitem__(self, path: str) -> int:
         """The number of the node with this path."""
+        if path not in self._nodes:
+            self.refresh()
         return self._nodes[path]
 
     def __iter__(self) -> Iterator[str]:
@@ -112,6 +146,7 @@ class Names(Mapping[str, int]):
         if self.file is not None:
             _write(_parents_file(self.file), self.parents)
             _write(os.fspath(self.file), self.names)
+            self._known = _state_of(self.file)
 
     def _add(self, node: int) -> None:
         """Takes up the path of the next node."""
@@ -133,6 +168,40 @@ class Names(Mapping[str, int]):
         if above is None or not name:
             return None
         return f"{above}{SEPARATOR}{name}" if above else name
+
+
+class Turn:
+    """The right to add names to a file, which one program has at a time: so each knows those of all before it adds its own. Names without a file need none."""
+
+    def __init__(self, names: Names) -> None:
+        self._names = names
+        self._lock = None if names.file is None else open(f"{os.fspath(names.file)}.lock", "a")
+
+    def is_taken(self, waits: bool = False) -> bool:
+        """Whether it is this one's turn now; it comes if one waits."""
+        if self._lock is not None:
+            try:
+                fcntl.flock(self._lock, fcntl.LOCK_EX | (0 if waits else fcntl.LOCK_NB))
+            except BlockingIOError:
+                return False
+        self._names.refresh()
+        return True
+
+    def __enter__(self) -> Turn:
+        return self
+
+    def __exit__(self, *_: Any) -> None:
+        if self._lock is not None:
+            self._lock.close()
+
+
+def _state_of(file: str | os.PathLike[str] | None) -> tuple[int, int] | None:
+    """Which state of a file is there: each one that is written is a file of its own."""
+    try:
+        found = None if file is None else os.stat(file)
+    except FileNotFoundError:
+        return None
+    return None if found is None else (found.st_ino, found.st_mtime_ns)
 
 
 def _parents_file(names: str | os.PathLike[str]) -> str:
