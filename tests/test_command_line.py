@@ -19,6 +19,7 @@ import subprocess
 import refusing
 from running import asked, free_port
 from serving import LISTENING, Process
+from unproved import without_proofs
 
 TOP = pathlib.Path(__file__).resolve().parent.parent
 FULL = "/dev/full"
@@ -554,6 +555,7 @@ def long_trail(calls):
 
 def test_long_trails(tests):
     """A long trail is read item by item, and so in some eight bytes of addresses a byte of its text; as one value it takes over twenty."""
+    without_proofs()
     calls = 1_500
     text = json.dumps(long_trail(calls), separators=(",", ":"))
     tests.path("long.json").write_text(text)

@@ -20,10 +20,10 @@ SANITIZED = b"\nexport ASAN_OPTIONS="
 
 
 def without_proofs():
-    """Skips what an unproved program can't do: no memory can be refused to it."""
+    """Skips what an unproved program can't do: no memory can be refused to it, and it takes more addresses than there may be."""
     program = os.environ.get("TREEDB_PROGRAM")
     if program and SANITIZED in pathlib.Path(program).read_bytes()[:4096]:
-        skip("no memory can be refused to a program that is built without proofs")
+        skip("a program that is built without proofs takes all the memory that it wants")
 
 
 def environment(folder, program):

@@ -5,11 +5,16 @@ A tree's nodes have numbers alone. Names stay outside of the database: a file ha
 
 from __future__ import annotations
 
-import fcntl
 import json
 import os
 from collections.abc import Iterable, Iterator, Mapping
 from typing import Any
+
+try:
+    import fcntl
+except ImportError:
+    # Not every system has it: there one program alone adds names.
+    fcntl = None  # type: ignore[assignment]
 
 __all__ = ["SEPARATOR", "Names", "Turn", "printable"]
 
@@ -179,7 +184,7 @@ class Turn:
 
     def is_taken(self, waits: bool = False) -> bool:
         """Whether it is this one's turn now; it comes if one waits."""
-        if self._lock is not None:
+        if self._lock is not None and fcntl is not None:
             try:
                 fcntl.flock(self._lock, fcntl.LOCK_EX | (0 if waits else fcntl.LOCK_NB))
             except BlockingIOError:
