@@ -9,7 +9,7 @@ from running import compiled
 from unproved import without_proofs
 
 # Refuses the allocation whose number REFUSE gives, counted from 1, and each one behind it where REFUSE_ALL is set. It tells
-# on the file descriptor 99 whether it came to that.
+# on the file descriptor REFUSE_TO whether it came to that.
 SOURCE = r"""
 #define _GNU_SOURCE
 #include <dlfcn.h>
@@ -17,19 +17,20 @@ SOURCE = r"""
 #include <stdlib.h>
 #include <unistd.h>
 
-static long asked, from, all;
+static long asked, from, all, to;
 
 __attribute__((constructor)) static void begin(void) {
     const char *number = getenv("REFUSE");
     from = number ? atol(number) : 0;
     all = getenv("REFUSE_ALL") != 0;
+    to = number ? atol(getenv("REFUSE_TO")) : 0;
     asked = 0;
 }
 
 static int refused(void) {
     asked++;
     if (from == 0 || asked < from || (asked > from && !all)) return 0;
-    if (asked == from && write(99, "r", 1) < 0) _exit(70);
+    if (asked == from && write(to, "r", 1) < 0) _exit(70);
     errno = ENOMEM;
     return 1;
 }
@@ -57,11 +58,9 @@ def library(folder):
 def refused(built, number, all_from, run):
     """What `run(env=.., pass_fds=..)` comes to where the allocation of that number is refused, or each from it on; and whether
     it came to that."""
-    env = {"LD_PRELOAD": str(built), "REFUSE": str(number)} | ({"REFUSE_ALL": "1"} if all_from else {})
     told, teller = os.pipe()
-    os.dup2(teller, 99)
+    env = {"LD_PRELOAD": str(built), "REFUSE": str(number), "REFUSE_TO": str(teller)} | ({"REFUSE_ALL": "1"} if all_from else {})
+    done = run(env=env, pass_fds=(teller,))
     os.close(teller)
-    done = run(env=env, pass_fds=(99,))
-    os.close(99)
     with os.fdopen(told, "rb") as pipe:
         return done, pipe.read() != b""

@@ -8,6 +8,7 @@ import contextlib
 import ctypes
 import faulthandler
 import functools
+import itertools
 import os
 import pathlib
 import random
@@ -29,6 +30,7 @@ TOP = pathlib.Path(__file__).resolve().parent.parent
 # After so many seconds a test hangs, and after half of them an answer that doesn't come. A machine that is busy with other work takes long.
 LIMIT = float(os.environ.get("TREEDB_TEST_SECONDS", "600"))
 PATIENCE = LIMIT / 2
+PROCESSORS = len(os.sched_getaffinity(0))
 # How many seconds a test that was cut off has to end what it began.
 LAST_WORDS = 60
 # The tools that this machine shall have: what needs one of them fails where it isn't there.
@@ -57,6 +59,12 @@ else:
             return functools.partial(fixture, scope=scope)
         made.scope = scope
         return made
+
+
+def alone(test):
+    """Marks a test that looks at how long something takes: `tests/run` has no other beside it."""
+    test.is_alone = True
+    return test
 
 
 class MissingProgram(Exception):
@@ -107,8 +115,10 @@ def files_of_repository(*patterns):
 
 @functools.cache
 def seed():
-    """The seed of what this run leaves to chance. It is printed when it is asked for first, and TREEDB_SEED gives it again."""
-    number = int(os.environ.get("TREEDB_SEED", time.time_ns() % 1_000_000))
+    """The seed of what this run leaves to chance. It is printed when it is made, and TREEDB_SEED gives it again."""
+    if given := os.environ.get("TREEDB_SEED"):
+        return int(given)
+    number = time.time_ns() % 1_000_000
     print(f"what is left to chance: TREEDB_SEED={number}")
     return number
 
@@ -160,15 +170,39 @@ class Threads:
         except Exception as reason:
             self.failed.append(reason)
 
-    def join(self):
-        """Waits for all, and raises what one of them raised."""
-        end = time.monotonic() + PATIENCE
+    def wait(self, patience):
+        """Waits for all, and answers whether they have ended."""
+        end = time.monotonic() + patience
         for thread in self.threads:
             thread.join(max(end - time.monotonic(), 0))
-        if any(thread.is_alive() for thread in self.threads):
-            raise Hangs(f"a thread of {len(self.threads)} hadn't ended after {PATIENCE:.0f} s")
+        return not any(thread.is_alive() for thread in self.threads)
+
+    def join(self, patience=PATIENCE):
+        """Waits for all, and raises what one of them raised."""
+        if not self.wait(patience):
+            raise Hangs(f"a thread of {len(self.threads)} hadn't ended after {patience:.0f} s")
         if self.failed:
             raise self.failed[0]
+
+
+def at_once(work, rows):
+    """What that work comes to for each row, in their order. As many are worked on at once as there are processors: so rows have nothing to do with each other, and write no file of the same name."""
+    rows, done, is_over = [*rows], {}, threading.Event()
+    places = iter(range(len(rows)))
+
+    def take():
+        while not is_over.is_set() and (place := next(places, None)) is not None:
+            done[place] = work(rows[place])
+
+    threads = Threads(*[(take,)] * min(PROCESSORS, len(rows)))
+    try:
+        # All of them have the time of a test.
+        threads.join(LIMIT)
+    finally:
+        # Where this is broken off, what is under way ends before its folder goes.
+        is_over.set()
+        threads.wait(LAST_WORDS / 2)
+    return [done[place] for place in range(len(rows))]
 
 
 def before_program(memory=None):
@@ -213,16 +247,18 @@ class Counts:
     def __init__(self):
         self.passed = self.failed = self.skipped = 0
         self.known = collections.Counter()
+        self.lock = threading.Lock()
 
     def check(self, name, holds, found):
-        """Counts a check, and tells what was found if it failed."""
-        if holds:
-            self.passed += 1
-        elif row := known_defects.row_of(name):
-            self.known[row] += 1
-        else:
-            self.failed += 1
-            print(f"failed: {name}: {found!r}")
+        """Counts a check, and tells what was found if it failed. Threads may check at once."""
+        with self.lock:
+            if holds:
+                self.passed += 1
+            elif row := known_defects.row_of(name):
+                self.known[row] += 1
+            else:
+                self.failed += 1
+                print(f"failed: {name}: {found!r}")
 
     def judge(self):
         """Ends a test: it has failed if one of its checks has."""
@@ -265,9 +301,16 @@ class Tests(Counts):
                 stream.close()
         return Run(done.returncode, (done.stdout or b"").decode(), (done.stderr or b"").decode())
 
+    def runs(self, *commands, **named):
+        """What runs with these words come to, in their order: see `at_once`."""
+        return at_once(lambda words: self.run(*words, **named), commands)
+
     def answers(self, name, words, status, out, err=None):
         """The run has this status, prints this, and says this to people, which may be a pattern."""
-        run = self.run(*words)
+        self.judged(name, self.run(*words), status, out, err)
+
+    def judged(self, name, run, status, out, err=None):
+        """That run has this status, and has printed and said this."""
         said = err is None or (err.search(run.err) if isinstance(err, re.Pattern) else run.err == err)
         self.check(name, run.status == status and run.out == out and said, run)
 
@@ -279,10 +322,28 @@ class Tests(Counts):
         return self.path(name).read_bytes() if self.path(name).is_file() else b""
 
 
+def ports():
+    """Ports, one after another, of those that no connection has for its own end, from one on that is left to chance: so two runs of tests hardly come to the same."""
+    try:
+        highest = min(32_000, int(pathlib.Path("/proc/sys/net/ipv4/ip_local_port_range").read_text().split()[0]))
+    except OSError:
+        highest = 32_000
+    lowest = min(12_000, highest - 1)
+    first = random.randrange(lowest, highest)
+    yield from itertools.cycle([*range(first, highest), *range(lowest, first)])
+
+
+PORTS, TAKING = ports(), threading.Lock()
+
+
 def free_port():
-    with socket.socket() as peer:
-        peer.bind(("127.0.0.1", 0))
-        return peer.getsockname()[1]
+    """A port that nobody listens on."""
+    while True:
+        with TAKING:
+            port = next(PORTS)
+        with contextlib.suppress(OSError), socket.socket() as peer:
+            peer.bind(("127.0.0.1", port))
+            return port
 
 
 def asked(port, lines):

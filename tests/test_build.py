@@ -10,7 +10,7 @@ import tempfile
 from pathlib import Path
 from unittest import mock
 
-from running import TOP, Counts, fixture
+from running import TOP, Counts, alone, fixture
 
 CRATES = {"tl_width": [], "tl_tree": ["tl_width", "serde_json"], "tl_core": ["tl_tree", "tl_width"], "tl_cli": ["tl_core", "tl_tree", "tl_width"], "tl_test": ["tl_core"]}
 # It says which crate it proves, for a moment; one that is told in a file beside the sources isn't proved.
@@ -59,6 +59,7 @@ def build():
         yield run
 
 
+@alone
 def test_what_is_said(tests, build):
     """At first what it wants, each `EVERY` seconds what it does, and of each crate that it is done."""
     status, said, told = build()

@@ -16,7 +16,7 @@ import unittest
 
 import treedb
 import treedb.reading
-from running import PATIENCE, TOP, Threads, fixture, raises, skip, tool
+from running import PATIENCE, TOP, Threads, alone, fixture, raises, skip, tool
 
 PYTHON, JAVASCRIPT = TOP / "clients/python", TOP / "clients/javascript"
 ADD = (TOP / "examples/add.asm").read_text()
@@ -38,6 +38,7 @@ def test_the_versions():
     assert (treedb.__version__, json.loads((JAVASCRIPT / "package.json").read_text())["version"]) == (version, version)
 
 
+@alone
 def test_the_tests_of_the_client_in_python(tests):
     """`python3 -m unittest` in clients/python, each test a check of its own."""
     suite = unittest.defaultTestLoader.discover(str(PYTHON / "tests"), top_level_dir=str(PYTHON))
@@ -330,6 +331,7 @@ def said_on_a_server(server, folder):
     return json.loads(done.stdout) if done.returncode == 0 else done.stderr
 
 
+@alone
 def test_the_tests_of_the_client_for_node():
     tool("node")
     done = subprocess.run(["node", "--test"], cwd=JAVASCRIPT, capture_output=True, text=True, timeout=PATIENCE, check=False)

@@ -17,7 +17,7 @@ import socket
 import subprocess
 
 import refusing
-from running import asked, free_port
+from running import asked, at_once, free_port
 from serving import LISTENING, Process
 from unproved import without_proofs
 
@@ -100,25 +100,19 @@ def error_line(numbers):
 
 
 def test_command_lines(tests):
-    for command in [[], ["alone"], ["drive"], ["run"], ["serve"], ["audit"], ["asm"], ["dis"], ["verify"], ["check"], ["compile"], ["procs"], ["migrate"],
-                    ["widen"], ["export"], ["stop"], ["status"], ["snapshot"], ["register"], ["replace"], ["explain"]]:
-        run = tests.run(*command, "--help")
-        name = " ".join(command) or "treedb"
+    helps = [[*command, "--help"] for command in [[], ["alone"], ["drive"], ["run"], ["serve"], ["audit"], ["asm"], ["dis"], ["verify"], ["check"], ["compile"], ["procs"], ["migrate"],
+                                                  ["widen"], ["export"], ["stop"], ["status"], ["snapshot"], ["register"], ["replace"], ["explain"]]]
+    for words, run, unprinted in zip(helps, tests.runs(*helps), tests.runs(*helps, out=FULL)):
+        name = " ".join(words[:-1]) or "treedb"
         holds = run.status == 0 and "Usage" in run.out and "Exit status" in run.out and run.err == ""
         tests.check(f"help of {name}", holds, run)
-        run = tests.run(*command, "--help", out=FULL)
-        tests.check(f"help of {name} that can't be printed", run.status == 3 and is_unprinted(run), run)
-    for words in MISTAKES:
-        run = tests.run(*words)
+        tests.check(f"help of {name} that can't be printed", unprinted.status == 3 and is_unprinted(unprinted), unprinted)
+    for words, run, untold in zip(MISTAKES, tests.runs(*MISTAKES), tests.runs(*MISTAKES, err=FULL)):
         tests.check(f"mistake {words}", run.status == 2 and run.out == "" and run.err != "", run)
-        run = tests.run(*words, err=FULL)
-        tests.check(f"mistake {words}, told to nobody", run.status == 2 and run.out == "", run)
-    for words in COMMANDS:
-        for place in range(len(words)):
-            bad = [word.encode() for word in words]
-            bad[place] = b"\xff" + bad[place]
-            run = tests.run(*bad)
-            tests.check(f"word {place} of {words} isn't UTF-8", run.status == 2 and run.out == "" and run.err != "", run)
+        tests.check(f"mistake {words}, told to nobody", untold.status == 2 and untold.out == "", untold)
+    bad = [[b"\xff" * (at == place) + word.encode() for at, word in enumerate(words)] for words in COMMANDS for place in range(len(words))]
+    for words, run in zip(bad, tests.runs(*bad)):
+        tests.check(f"a word of {words} isn't UTF-8", run.status == 2 and run.out == "" and run.err != "", run)
     run = tests.run(b"\xff", err=FULL)
     tests.check("a word that isn't UTF-8, told to nobody", run.status == 2 and run.out == "", run)
 
@@ -129,13 +123,11 @@ def test_refusals(tests):
     tests.path("twice.json").write_text('{"calls":[["a",[]]],"procs":[["a","arity 0\\nret"],["a","arity 0\\nret"]]}')
     tests.path("forgetful.asm").write_text("arity 1\n\nfirst n0 v0 else out ; locks\n  jmp end\nend:\n  ret\nout:\nret\n")
     tests.path("forgetful.json").write_text(json.dumps({"calls": [["a", []]], "procs": [["ok", "arity 0\nret"], ["a", tests.path("forgetful.asm").read_text()]]}))
-    for words, numbers in REFUSED:
-        said = re.compile(r"^treedb: .+\n\Z", re.MULTILINE)
-        tests.answers(f"refused {words}", words, 1, error_line(numbers), said)
-        run = tests.run(*words, err=FULL)
-        tests.check(f"refused {words}, told to nobody", run.status == 1 and run.out == error_line(numbers), run)
-        run = tests.run(*words, out=FULL)
-        tests.check(f"refused {words}, not printed", run.status == 3 and is_unprinted(run), run)
+    refused = [words for words, _ in REFUSED]
+    for (words, numbers), run, untold, unprinted in zip(REFUSED, tests.runs(*refused), tests.runs(*refused, err=FULL), tests.runs(*refused, out=FULL)):
+        tests.judged(f"refused {words}", run, 1, error_line(numbers), re.compile(r"^treedb: .+\n\Z", re.MULTILINE))
+        tests.check(f"refused {words}, told to nobody", untold.status == 1 and untold.out == error_line(numbers), untold)
+        tests.check(f"refused {words}, not printed", unprinted.status == 3 and is_unprinted(unprinted), unprinted)
     tests.check("a refused text writes no container", not tests.path("never.tlp").exists(), "it is there")
     for words in (["asm", "no.asm", "never.tlp"], ["check", "no.asm"]):
         tests.answers(f"the refused line is shown by {words}", words, 1, error_line([251, 2]),
@@ -173,15 +165,14 @@ def test_numbers(tests):
     """`explain` prints what docs/use/faults.md says of each number."""
     rows = re.findall(r"^\| (\d+)((?:, \w+)*) \| ([^|]+) \| ([^|]+) \| ([^|]+) \|$", (TOP / "docs/use/faults.md").read_text(), re.MULTILINE)
     tests.check("docs/use/faults.md has numbers, each once", len({row[0] for row in rows}) == len(rows) > 70, len(rows))
-    for number, parts, name, when, advice in rows:
-        tests.answers(f"explain {number}", ["explain", number], 0, f"[{number}{parts}]: {name}\nWhen: {when}.\nWhat to do: {advice}.\n", "")
+    for (number, parts, name, when, advice), run in zip(rows, tests.runs(*(["explain", row[0]] for row in rows))):
+        tests.judged(f"explain {number}", run, 0, f"[{number}{parts}]: {name}\nWhen: {when}.\nWhat to do: {advice}.\n", "")
     run = tests.run("explain", "408", out=FULL)
     tests.check("an explanation that can't be printed", run.status == 3 and is_unprinted(run), run)
     known = {number for number in map(int, (row[0] for row in rows))}
-    for number in range(1000):
-        if number not in known:
-            run = tests.run("explain", str(number))
-            tests.check(f"explain {number}", run.status == 2 and run.out == "", run)
+    unknown = [number for number in range(1000) if number not in known]
+    for number, run in zip(unknown, tests.runs(*(["explain", str(number)] for number in unknown))):
+        tests.check(f"explain {number}", run.status == 2 and run.out == "", run)
     # In the fault types of the crates no number stands that isn't explained.
     for path in sorted(path for path in TOP.glob("crates/tl_*/src/**/*.rt") if "tl_test_" not in str(path)):
         for found in re.findall(r"^ *///(?: .*)? (\d{2,3})(?: and the \w+)?: ", path.read_text(), re.MULTILINE):
@@ -198,15 +189,12 @@ def is_unprinted(run):
 
 def test_streams(tests):
     before(tests)
-    for words in COMMANDS:
-        plain = tests.run(*words)
+    # Each of the commands writes files of its own.
+    for words, plain, untold, unprinted, neither in zip(COMMANDS, *(tests.runs(*COMMANDS, **full) for full in ({}, {"err": FULL}, {"out": FULL}, {"out": FULL, "err": FULL}))):
         tests.check(f"done {words}", plain.status == 0 and plain.err == "", plain)
-        run = tests.run(*words, err=FULL)
-        tests.check(f"{words} with a full standard error", run.status == 0 and run.out == plain.out, run)
-        run = tests.run(*words, out=FULL)
-        tests.check(f"{words} with a full standard output", run.status == 3 and is_unprinted(run), run)
-        run = tests.run(*words, out=FULL, err=FULL)
-        tests.check(f"{words} with both full", run.status == 3, run)
+        tests.check(f"{words} with a full standard error", untold.status == 0 and untold.out == plain.out, untold)
+        tests.check(f"{words} with a full standard output", unprinted.status == 3 and is_unprinted(unprinted), unprinted)
+        tests.check(f"{words} with both full", neither.status == 3, neither)
 
 
 # ---- options
@@ -296,39 +284,28 @@ def test_sources(tests):
 
 # ---- files
 
-def unreadable(tests, words, place, reason, path):
-    """The file in this place of the words can't be read."""
-    words = words[:place] + [path] + words[place + 1:]
-    said = f"treedb: {path} can't be read: {os.strerror(reason)}"
-    run = tests.run(*words)
-    holds = run.status == 3 and run.out == error_line([31]) and run.err.startswith(said) and run.err.count("\n") == 1
-    tests.check(f"unreadable {words}", holds, run)
-    run = tests.run(*words, err=FULL)
-    tests.check(f"unreadable {words}, told to nobody", run.status == 3 and run.out == error_line([31]), run)
-
-
-def unwritable(tests, words, place, reason, path):
-    """The file in this place of the words can't be written."""
-    words = words[:place] + [path] + words[place + 1:]
-    said = f"treedb: {path} can't be written: {os.strerror(reason)}"
-    run = tests.run(*words)
-    holds = run.status == 3 and run.out == error_line([32]) and run.err.startswith(said) and run.err.count("\n") == 1
-    tests.check(f"unwritable {words}", holds, run)
-    run = tests.run(*words, err=FULL)
-    tests.check(f"unwritable {words}, told to nobody", run.status == 3 and run.out == error_line([32]), run)
+def failing_files(tests, what, number, rows):
+    """Of each row, the file that takes that place of the words can't be read, or written, for a reason."""
+    commands = [words[:place] + [path] + words[place + 1:] for words, place, _, path in rows]
+    for (_, _, reason, path), words, run, untold in zip(rows, commands, tests.runs(*commands), tests.runs(*commands, err=FULL)):
+        said = f"treedb: {path} can't be {what}: {os.strerror(reason)}"
+        holds = run.status == 3 and run.out == error_line([number]) and run.err.startswith(said) and run.err.count("\n") == 1
+        tests.check(f"not {what}: {words}", holds, run)
+        tests.check(f"not {what}: {words}, told to nobody", untold.status == 3 and untold.out == error_line([number]), untold)
 
 
 def test_files(tests):
+    unreadable, unwritable = [], []
     for words, place in [(ALONE, 2), (ALONE, 4), (DRIVE, 2), (DRIVE, 3), (RUN, 2), (RUN, 5), (SERVE, 2), (AUDIT, 1), (ASM, 1), (DIS, 1),
                          (VERIFY, 1), (CHECK, 1), (MIGRATE, 1), (WIDEN, 1)]:
-        unreadable(tests, words, place, errno.ENOENT, "nowhere/there is none")
+        unreadable.append((words, place, errno.ENOENT, "nowhere/there is none"))
         if words != AUDIT:  # which takes folders too: test_lasting.py has them
-            unreadable(tests, words, place, errno.EISDIR, "examples")
-        unreadable(tests, words, place, errno.ENOTDIR, "examples/add.asm/x")
+            unreadable.append((words, place, errno.EISDIR, "examples"))
+        unreadable.append((words, place, errno.ENOTDIR, "examples/add.asm/x"))
     for words, place in [(ASM, 2), (MIGRATE, 2), (WIDEN, 2), (DRIVE_WITH_TRAIL, 4), (RUN_AT_ONCE, 6)]:
-        unwritable(tests, words, place, errno.ENOENT, "nowhere/there is none")
-        unwritable(tests, words, place, errno.EISDIR, "examples")
-        unwritable(tests, words, place, errno.ENOSPC, FULL)
+        unwritable += [(words, place, errno.ENOENT, "nowhere/there is none"), (words, place, errno.EISDIR, "examples"), (words, place, errno.ENOSPC, FULL)]
+    failing_files(tests, "read", 31, unreadable)
+    failing_files(tests, "written", 32, unwritable)
     both = ["alone", "--tree", "no tree", "--proc", "no procedure"]
     tests.answers("the tree's file is read first", both, 3, error_line([31]), re.compile("^treedb: no tree can't be read"))
     tests.answers("files are read before they are judged", ["alone", "--tree", "examples/add.asm", "--proc", "none"], 3,
@@ -395,13 +372,17 @@ def test_at_once(tests):
     """Several threads: the calls and the tree that they leave are the same in each run, and the order fits the replies."""
     tests.answers("one worker", RUN, 0, RUN_OUT, "")
     answers, _, tree = map(json.loads, RUN_OUT.splitlines())
+    # The runs come one after another, so that four threads have four processors; their audits come together.
+    done = []
     for number in range(50):
         name = f"four workers, run {number}"
-        run = tests.run(*RUN_AT_ONCE)
+        run = tests.run(*RUN_AT_ONCE[:-2], f"at-once-{number}.json", RUN_AT_ONCE[-1])
         is_done = run.status == 0 and run.err == "" and run.out.count("\n") == 3
         tests.check(name, is_done, run)
-        if not is_done:
-            continue
+        if is_done:
+            done.append((number, name, run))
+    audits = tests.runs(*(["audit", f"at-once-{number}.json"] for number, _, _ in done))
+    for (number, name, run), audit in zip(done, audits):
         batch, order, left = map(json.loads, run.out.splitlines())
         replies = [answer["reply"] for answer in batch["batch"] if "call" in answer]
         # The look finds 7, and what those sweeps have added that come before it.
@@ -411,10 +392,10 @@ def test_at_once(tests):
         tests.check(f"{name}: the replies in that order, and the tree", holds, run)
         answers["batch"][2]["reply"] = replies[2]
         tests.check(f"{name}: the answers", batch == answers, run)
-        trail = json.loads(tests.bytes("at-once.json"))
+        trail = json.loads(tests.bytes(f"at-once-{number}.json"))
         holds = [call[2] for call in trail["calls"]] == replies and trail["end"] == left["records"]
         tests.check(f"{name}: the trail's replies and end", holds, trail)
-        tests.answers(f"{name}: the trail's order", ["audit", "at-once.json"], 0, run.out.splitlines(True)[1], "")
+        tests.judged(f"{name}: the trail's order", audit, 0, run.out.splitlines(True)[1], "")
 
 
 # ---- a server
@@ -663,26 +644,31 @@ def is_same(run, plain):
     return run.status == 0 and (run.out == plain.out or re.search(r'\["x",690\]|"error":\[[68]90\]', run.out) is not None)
 
 
+def refuse_each(tests, library, words):
+    """Each allocation of a command is refused in turn, alone and with all behind it, until nothing is refused any more."""
+    plain = tests.run(*words)
+    for all_from in (False, True):
+        reads_words, number = True, 0
+        while True:
+            number += 1
+            run, was_refused = refusing.refused(library, number, all_from, functools.partial(tests.run, *words))
+            if not was_refused:
+                break
+            # The command line's memory comes first, and the command's behind it.
+            reads_words = reads_words and not is_memory(run)
+            holds = is_same(run, plain) or (is_silent(run) if reads_words else is_memory(run))
+            tests.check(f"{words}: allocation {number} refused{' and all behind' * all_from}", holds, run)
+            if number == 1:
+                tests.check(f"{words}: the first allocation is the command line's", is_silent(run), run)
+        tests.check(f"{words}: the command's memory was refused too", not reads_words, run)
+        tests.check(f"{words}: nothing is refused", run.status == 0 and run.out == plain.out, run)
+
+
 def test_memory(tests):
     library = refusing.library(tests.folder)
     before(tests)
-    for words in COMMANDS:
-        plain = tests.run(*words)
-        for all_from in (False, True):
-            reads_words, number = True, 0
-            while True:
-                number += 1
-                run, was_refused = refusing.refused(library, number, all_from, functools.partial(tests.run, *words))
-                if not was_refused:
-                    break
-                # The command line's memory comes first, and the command's behind it.
-                reads_words = reads_words and not is_memory(run)
-                holds = is_same(run, plain) or (is_silent(run) if reads_words else is_memory(run))
-                tests.check(f"{words}: allocation {number} refused{' and all behind' * all_from}", holds, run)
-                if number == 1:
-                    tests.check(f"{words}: the first allocation is the command line's", is_silent(run), run)
-            tests.check(f"{words}: the command's memory was refused too", not reads_words, run)
-            tests.check(f"{words}: nothing is refused", run.status == 0 and run.out == plain.out, run)
+    # Each of the commands writes files of its own.
+    at_once(functools.partial(refuse_each, tests, library), COMMANDS)
 
 
 def before(tests):

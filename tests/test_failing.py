@@ -12,7 +12,7 @@ from typing import NamedTuple
 
 import refusing
 from disk import FAILURES, Disk, library
-from running import Threads, chance, parametrize
+from running import Threads, at_once, chance, parametrize
 from serving import ADD, NotStarted, Peer, serving
 from test_store import STORE, batch, call, lines, stored
 
@@ -141,13 +141,28 @@ def has_all(tests, name, store, answers):
     tests.check(f"{name}: the audit", run.status == 0, run)
 
 
-def at_its_calls(tests, name, what, disk, once, is_each=IS_EACH):
-    """Has `once` judge runs in which the disk fails, and say of each whether it came to that call."""
-    once(f"{name}, no {what}", MOST)
-    count = disk.calls()
+class Attempt(NamedTuple):
+    """A run in which the disk fails at its call of that number, or kills the program: what its checks are called, and the disk and the file for a store that are its own."""
+
+    name: str
+    number: int
+    what: str
+    disk: Disk
+    store: str
+
+
+def at_its_calls(tests, built, name, what, once, is_each=IS_EACH):
+    """Has `once` judge runs in which the disk fails, some at once, and say of each whether it came to that call."""
+    def attempt(number, words):
+        return Attempt(f"{name}, {words}", number, what, Disk(built, tests.folder, f"{what} {number}"), f"{what}-{number}.db")
+
+    plain = attempt(MOST, f"no {what}")
+    once(plain)
+    count = plain.disk.calls()
     numbers = range(1, count + 1)
     tried = numbers if is_each else sorted({1, count, *chance(f"{name} {what}").sample(numbers, min(SOME, count))})
-    reached = [number for number in tried if once(f"{name}, {what} at disk call {number} of {count}", number)]
+    found = at_once(once, [attempt(number, f"{what} at disk call {number} of {count}") for number in tried])
+    reached = [number for number, is_reached in zip(tried, found) if is_reached]
     # The last ones may come later than the server's end is asked for.
     tests.check(f"{name}, {what}: the disk fails", 1 in reached, (count, reached))
 
@@ -159,24 +174,23 @@ def test_requests(tests, requested):
     with serving(tests, "--store", "before.db", "--generation", "1", connections=None) as server:
         ask_until_the_end(server, [ADD, *(keyed(f"before {number}") for number in range(KEPT)), *requested.before], before)
         server.kill()
+
+    def once(it):
+        copied(tests, "before.db", it.store)
+        answers = Answers()
+        answers.keyed, answers.told = dict(before.keyed), list(before.told)
+        with serving(tests, "--store", it.store, "--generation", "1", connections=None, tree=None, env=it.disk.failing(it.number, it.what, later=True)) as server:
+            Peer(server.port).ask(keyed("before 0"))
+            it.disk.now()
+            ask_until_the_end(server, requested.lines, answers)
+            if it.disk.calls() < it.number:
+                return False
+            ends_as_said(tests, it.name, server.end(), it.what)
+        has_all(tests, it.name, it.store, answers)
+        return True
+
     for what in ("kill", *FAILURES):
-        disk = Disk(built, tests.folder)
-
-        def once(name, number, what=what, disk=disk):
-            copied(tests, "before.db", "tried.db")
-            answers = Answers()
-            answers.keyed, answers.told = dict(before.keyed), list(before.told)
-            with serving(tests, "--store", "tried.db", "--generation", "1", connections=None, tree=None, env=disk.failing(number, what, later=True)) as server:
-                Peer(server.port).ask(keyed("before 0"))
-                disk.now()
-                ask_until_the_end(server, requested.lines, answers)
-                if disk.calls() < number:
-                    return False
-                ends_as_said(tests, name, server.end(), what)
-            has_all(tests, name, "tried.db", answers)
-            return True
-
-        at_its_calls(tests, requested.name, what, disk, once)
+        at_its_calls(tests, built, requested.name, what, once)
 
 
 # How many connections ask at once, and at which calls of the disk it fails then.
@@ -219,12 +233,13 @@ def number_of(run):
     return json.loads(run.out.splitlines()[-1])["error"][0] if run.status else 0
 
 
-def said_of(tests, answers):
+def said_of(tests, it, answers):
     """With which numbers an audit, a start and its calls say that a copy of the store's file isn't as it was written; none where each of them takes it."""
-    copied(tests, STORE, "read.db")
-    said, found = {number_of(tests.run("audit", "read.db"))}, []
+    read = f"read of {it.store}"
+    copied(tests, it.store, read)
+    said, found = {number_of(tests.run("audit", read))}, []
     try:
-        with serving(tests, "--store", "read.db", connections=None, tree=None) as server:
+        with serving(tests, "--store", read, connections=None, tree=None) as server:
             with contextlib.suppress(OSError):
                 peer = Peer(server.port)
                 found = [peer.ask(line) for line in (*map(keyed, answers.keyed), call(0, 0))]
@@ -239,30 +254,31 @@ def said_of(tests, answers):
 
 def test_lost_writes(tests):
     """A disk that says of one write that it is done, and hasn't done it. The server says at its end that its store is another than what was run, or a reader, the next start or one of its calls says so, or all is there."""
-    built, found = library(tests.folder), []
+    built = library(tests.folder)
 
-    def once(name, number):
-        disk = Disk(built, tests.folder)
-        for suffix in ("", "-wal"):
-            tests.path(STORE + suffix).unlink(missing_ok=True)
+    def once(it):
         answers = Answers()
-        with serving(tests, "--store", STORE, connections=None, env=disk.failing(number, "lose", later=True)) as server:
+        with serving(tests, "--store", it.store, connections=None, env=it.disk.failing(it.number, it.what, later=True)) as server:
             ask_until_the_end(server, [ADD], answers)
-            disk.now()
+            it.disk.now()
             ask_until_the_end(server, [keyed("one"), call(0, 2), GROW, keyed("two")], answers)
             server.stop()
-            found.append(number_of(server.end()))
-        said = {found[-1]} - {0} | said_of(tests, answers)
+            found = number_of(server.end())
+        said = {found} - {0} | said_of(tests, it, answers)
         if said:
             # What was lost may be missed by others too, as a procedure by a call.
-            tests.check(f"{name}: what is said", said & OTHER_BYTES, said)
+            tests.check(f"{it.name}: what is said", said & OTHER_BYTES, said)
         else:
-            has_all(tests, name, STORE, answers)
-        return disk.calls()
+            has_all(tests, it.name, it.store, answers)
+        return found
 
-    count = once("no write is lost", MOST)
-    for number in range(1, count + 1):
-        once(f"write {number} of {count} is lost", number)
+    def attempt(number, words):
+        return Attempt(f"{words} is lost", number, "lose", Disk(built, tests.folder, f"write {number}"), f"lost-{number}.db")
+
+    plain = attempt(MOST, "no write")
+    once(plain)
+    count = plain.disk.calls()
+    found = at_once(once, [attempt(number, f"write {number} of {count}") for number in range(1, count + 1)])
     tests.check("a lost write is told of by the server that wrote", any(found), found)
 
 
@@ -306,48 +322,41 @@ def test_without_memory(tests):
 def test_first_start(tests):
     """A first start that is broken off has made a store, or none: the next one with the same words makes it, or a start without a tree takes it up."""
     built = library(tests.folder)
+
+    def once(it):
+        if not fails_at_start(tests, it, tree="examples/one-node.json"):
+            return False
+        found = [start_of(tests, tree, it.store) for tree in (None, "examples/one-node.json")]
+        tests.check(f"{it.name}: a store is made or none is there", any(run.status == 0 for run in found), found)
+        return True
+
     for what in ("kill", *FAILURES):
-        disk = Disk(built, tests.folder)
-
-        def once(name, number, what=what, disk=disk):
-            for suffix in ("", "-wal"):
-                tests.path(STORE + suffix).unlink(missing_ok=True)
-            if not fails_at_start(tests, disk, name, what, number, tree="examples/one-node.json"):
-                return False
-            found = [start_of(tests, tree) for tree in (None, "examples/one-node.json")]
-            tests.check(f"{name}: a store is made or none is there", any(run.status == 0 for run in found), found)
-            return True
-
-        at_its_calls(tests, "a first start", what, disk, once, is_each=IS_EACH or what == "kill")
+        at_its_calls(tests, built, "a first start", what, once, is_each=IS_EACH or what == "kill")
 
 
-def start_of(tests, tree):
+def start_of(tests, tree, store=STORE):
     """What a server comes to that is stopped when it has started."""
     try:
-        with serving(tests, "--store", STORE, connections=None, tree=tree) as server:
+        with serving(tests, "--store", store, connections=None, tree=tree) as server:
             server.stop()
             return server.end()
     except NotStarted as refused:
         return refused.run
 
 
-def fails_at_start(tests, disk, name, what, number, tree=None, reads=False):
+def fails_at_start(tests, it, tree=None, reads=False):
     """Whether a start comes to that call of the disk, and then it ends as it is said."""
     try:
-        with serving(tests, "--store", STORE, connections=None, tree=tree, env=disk.failing(number, what, reads=reads)) as server:
+        with serving(tests, "--store", it.store, connections=None, tree=tree, env=it.disk.failing(it.number, it.what, reads=reads)) as server:
             # Some calls come behind the first lines that a server says.
             server.stop()
             run = server.end()
     except NotStarted as refused:
         run = refused.run
-    if disk.calls() < number:
-        tests.check(f"{name}: it isn't reached", run.status == 0, run)
+    if it.disk.calls() < it.number:
+        tests.check(f"{it.name}: it isn't reached", run.status == 0, run)
         return False
-    if what == "kill":
-        tests.check(f"{name}: it is killed", run.status == KILLED, run)
-    else:
-        wanted = lines({"error": [FAILURES[what]]})
-        tests.check(f"{name}: the status and the number", (run.status, run.out) == (3, wanted), run)
+    ends_as_said(tests, it.name, run, it.what)
     return True
 
 
@@ -357,17 +366,16 @@ def later_start(tests, name, end):
     with serving(tests, "--store", "before.db", connections=None) as server:
         ask_until_the_end(server, [ADD, *(keyed(f"before {number}") for number in range(KEPT)), batch(1, 2)], answers)
         end(server)
-    for what, reads in (("kill", False), ("EIO", True), ("ENOSPC", False)):
-        disk = Disk(built, tests.folder)
 
-        def once(tried, number, what=what, reads=reads, disk=disk):
-            copied(tests, "before.db", STORE)
-            if not fails_at_start(tests, disk, tried, what, number, reads=reads):
-                return False
-            has_all(tests, tried, STORE, answers)
-            return True
+    def once(it):
+        copied(tests, "before.db", it.store)
+        if not fails_at_start(tests, it, reads=it.what == "EIO"):
+            return False
+        has_all(tests, it.name, it.store, answers)
+        return True
 
-        at_its_calls(tests, name, what, disk, once)
+    for what in ("kill", *FAILURES):
+        at_its_calls(tests, built, name, what, once)
 
 
 def stop(server):
@@ -387,46 +395,44 @@ def test_recovery(tests):
 
 def test_copies(tests):
     """A copy that doesn't become whole leaves no file of its name, and the server and its store stay as they are; after a kill the next copy has that name."""
-    built = library(tests.folder)
-    tests.path("copies").mkdir()
+    built, answers = library(tests.folder), Answers()
     with serving(tests, "--store", "before.db", connections=None) as server:
-        answers = Answers()
         ask_until_the_end(server, [ADD, *(keyed(f"before {number}") for number in range(KEPT))], answers)
         server.kill()
-    for what in ("kill", *FAILURES):
-        disk = Disk(built, tests.folder)
 
-        def once(name, number, what=what, disk=disk):
-            copied(tests, "before.db", "tried.db")
-            for file in tests.path("copies").iterdir():
+    def once(it):
+        copied(tests, "before.db", it.store)
+        folder = f"copies of {it.store}"
+        copy = f"{folder}/one.db"
+        tests.path(folder).mkdir()
+        words = ["--store", it.store, "--snapshots", folder]
+        with serving(tests, *words, connections=None, tree=None, env=it.disk.failing(it.number, it.what, later=True)) as server:
+            Peer(server.port).ask(keyed("before 0"))
+            it.disk.now()
+            run = tests.run("snapshot", "--port", str(server.control), "one.db")
+            if it.disk.calls() < it.number:
+                tests.check(f"{it.name}: a copy is made", run.status == 0, run)
+                return False
+            judge_copy(tests, it.name, it.what, run, copy)
+        if tests.path(copy).exists():
+            has_all(tests, f"{it.name}: the copy", copy, answers)
+            for file in tests.path(folder).iterdir():
                 file.unlink()
-            words = ["--store", "tried.db", "--snapshots", "copies"]
-            with serving(tests, *words, connections=None, tree=None, env=disk.failing(number, what, later=True)) as server:
-                Peer(server.port).ask(keyed("before 0"))
-                disk.now()
-                run = tests.run("snapshot", "--port", str(server.control), "one.db")
-                if disk.calls() < number:
-                    tests.check(f"{name}: a copy is made", run.status == 0, run)
-                    return False
-                judge_copy(tests, name, what, run, server)
-            if tests.path("copies/one.db").exists():
-                has_all(tests, f"{name}: the copy", "copies/one.db", answers)
-                for file in tests.path("copies").iterdir():
-                    file.unlink()
-            with serving(tests, *words, connections=None, tree=None) as server:
-                run = tests.run("snapshot", "--port", str(server.control), "one.db")
-                tests.check(f"{name}: the next copy", run.status == 0, run)
-            has_all(tests, name, "tried.db", answers)
-            return True
+        with serving(tests, *words, connections=None, tree=None) as server:
+            run = tests.run("snapshot", "--port", str(server.control), "one.db")
+            tests.check(f"{it.name}: the next copy", run.status == 0, run)
+        has_all(tests, it.name, it.store, answers)
+        return True
 
-        at_its_calls(tests, "a copy", what, disk, once)
+    for what in ("kill", *FAILURES):
+        at_its_calls(tests, built, "a copy", what, once)
 
 
-def judge_copy(tests, name, what, run, server):
+def judge_copy(tests, name, what, run, copy):
     """What the one who asked for a copy is told where it fails."""
     if what == "kill":
         tests.check(f"{name}: nobody is told of a copy", run.out == "" or "error" in run.out, run)
         return
     told = json.loads(run.out)
     tests.check(f"{name}: the number", (run.status, told) == (3, {"error": [32]}), run)
-    tests.check(f"{name}: no file has its name", not tests.path("copies/one.db").exists(), [*tests.path("copies").iterdir()])
+    tests.check(f"{name}: no file has its name", not tests.path(copy).exists(), copy)

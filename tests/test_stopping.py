@@ -9,7 +9,7 @@ import subprocess
 import time
 
 from disk import Disk, library
-from running import PATIENCE, TOP, free_port, until
+from running import PATIENCE, TOP, alone, free_port, until
 from serving import ADD, CALL, LONG, Peer, Process, serving
 
 STOPPING = '{"stopping":true}\n'
@@ -157,6 +157,7 @@ def test_other_words(tests):
         tests.check("a control port that is taken", (run.status, run.out) == (3, '{"error":[33]}\n'), run)
 
 
+@alone
 def test_waiting_for_an_answer(tests):
     """A connection that waits for its answer longer than it may be silent isn't ended."""
     disk = Disk(library(tests.folder), tests.folder)
@@ -171,6 +172,7 @@ def test_waiting_for_an_answer(tests):
     tests.check("an answer that comes late", answer == '{"call":0,"reply":[8]}\n', answer)
 
 
+@alone
 def test_silence(tests):
     """A connection that sends nothing is ended."""
     with serving(tests, "--idle", "1", connections=10) as server:
@@ -184,6 +186,7 @@ def test_silence(tests):
         tests.check("silent peers", (run.status, run.out) == (0, left([0], 8)), run)
 
 
+@alone
 def test_answers_not_taken(tests):
     """A connection that takes none of its answers is ended too, and its place is free again. An empty line is one byte, its answer 16, and the peer's
     buffer small."""

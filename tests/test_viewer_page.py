@@ -5,7 +5,7 @@ import pathlib
 import subprocess
 import tempfile
 
-from running import PATIENCE, TOP, Counts, fixture, tool
+from running import PATIENCE, TOP, Counts, alone, fixture, tool
 from test_viewer import make_trails, words
 
 # A log of so many bytes has one epoch of so many calls between two short ones. Each call locks one node and frees it with another record: the most events that an epoch may have.
@@ -73,6 +73,7 @@ def text_of_large(fixed):
     yield '],"procs":[["add","arity 1\\nret\\n"]],"tree":{"parents":[' + ",".join("0" * NODES) + '],"records":[' + records(lambda _: 0) + "]}}"
 
 
+@alone
 def test_a_log_of_100_megabytes(tests, page):
     fixed = ",".join([str(-LARGE * 1000 - 1)] * 7)
     with open(f"{page.folder}/0.json", "w") as file:
