@@ -654,6 +654,25 @@ def test_changed_beside_a_server(tests):
         tests.check(f"{what} is changed: the end", (run.status, run.out) == (1, lines({"error": [1013]})), run)
 
 
+# A field of the record of a node that no call comes to, and another number in its place. Its row is in another page than those of the nodes that are called on.
+UNTOUCHED, ITS_FIELD, OTHER_FIELD = 399, 0x1122334455667788, 0x1122334455667789
+
+
+def test_changed_before_its_end(tests):
+    """A server that is stopped reads back what the next start takes up, also the records that no engine's rows have. Where one of their pages isn't what was written, it ends with 1013."""
+    tests.path("many.json").write_text(json.dumps({"parents": [0] * (UNTOUCHED + 1), "records": [[0] * 7 + [ITS_FIELD if node == UNTOUCHED else 0] for node in range(UNTOUCHED + 1)]}))
+    with made(tests, STORE, tree="many.json") as server:
+        peer = Peer(server.port)
+        told = [peer.ask(ADD), peer.ask(WIDE), peer.ask(call(0, 3)), *(peer.ask(WIDE_CALLS)[:40] for _ in range(MANY_PAGES))]
+        is_changed = changed_in_files(tests, STORE, ITS_FIELD.to_bytes(8, "big"), OTHER_FIELD.to_bytes(8, "big"))
+        peer.close()
+        server.stop()
+        run = server.end()
+    tests.check("a record is changed", is_changed, told[-1])
+    tests.check("a record is changed: no epoch is other than it was", "of the store" not in run.err, run)
+    tests.check("a record is changed: the end", (run.status, run.out) == (1, lines({"error": [1013]})), run)
+
+
 def ask_until_killed(port, own):
     """Adds one after another, some lines together, and keeps the replies that came."""
     with contextlib.suppress(OSError, ValueError, KeyError):

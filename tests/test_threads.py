@@ -4,9 +4,10 @@ import contextlib
 import json
 import os
 import pathlib
+import statistics
 import time
 
-from running import compiled, skip
+from running import alone, compiled, skip
 from serving import LONG, Peer, Server, serving
 
 # Writes into the file that STARTED names how many threads the program has started.
@@ -52,6 +53,7 @@ def on_one_processor():
         os.sched_setaffinity(0, processors)
 
 
+@alone
 def test_no_more_workers_than_calls(tests):
     """Where no threads stay, a batch starts others: at most so many as it has calls beside the first."""
     source, told = tests.path("started.c"), tests.path("started")
@@ -82,6 +84,7 @@ def awakenings(server):
     return sum(int(line.partition(":")[2]) for task in tasks(server) for line in (task / "status").read_text().splitlines() if line.startswith("voluntary_ctxt_switches"))
 
 
+@alone
 def test_an_idle_server(tests):
     """Nobody wakes in a server that has nothing to do, also behind a batch with which others helped."""
     with serving(tests, connections=None) as server:
@@ -116,6 +119,7 @@ def went_down(tests):
     return len(began), sum(places["l", first + 1, NODES - 2] < places["d", first] for first in began)
 
 
+@alone
 def test_a_node_that_is_freed(tests):
     """Of two calls down the same nodes, the second one follows the first, and doesn't wait for its end: at least now and then, since a busy machine may hold it up."""
     tests.path("chain.json").write_text(json.dumps(CHAIN))
@@ -128,3 +132,35 @@ def test_a_node_that_is_freed(tests):
             tests.check("the second call follows the first", followed * 4 >= began, (began, followed))
             return
     skip("no two calls come at once on this machine")
+
+
+# So many batches of short calls are timed on one worker and on four, in turn; and so many calls come before, by which a server learns that they are short.
+TIMED, LEARNT = 40, 16
+SHORT = json.dumps({"op": "register", "name": "short", "asm": "arity 0\nset v1 1\nrep 10\nadd v0 v0 v1 else L\nend\nL:\nemit v0\nret\n"})
+
+
+def slower(peer):
+    """How much longer short calls take on four workers than on one."""
+    times = {1: [], 4: []}
+    for _ in range(TIMED):
+        for workers, took in times.items():
+            began = time.perf_counter()
+            peer.ask(batch("short", 256, workers))
+            took.append(time.perf_counter() - began)
+    return statistics.median(times[4]) / statistics.median(times[1])
+
+
+@alone
+def test_short_calls_on_several_workers(tests):
+    """Others help with a batch where that pays: so short calls take about as long on four workers as on one, also when a server has done many of them. A busy machine may hold one of the tries up."""
+    if len(os.sched_getaffinity(0)) < 2:
+        skip("there is one processor")
+    with serving(tests, connections=None) as server:
+        peer = Peer(server.port)
+        peer.ask(SHORT)
+        for _ in range(LEARNT):
+            peer.ask(batch("short", 256))
+        found = []
+        while len(found) < 3 and (not found or found[-1] > 2):
+            found.append(slower(peer))
+    tests.check("short calls on four workers", found[-1] <= 2, found)
