@@ -130,6 +130,9 @@ def test_seal_while_a_call_runs(tests):
         sealed = two.ask(SEAL)
         found = json.loads(one.lines.readline())["batch"]
         tests.check("a seal beside a batch", sealed in (lines({"sealed": 0}), lines({"sealed": 1})) and len(found) == 8 and all("reply" in each for each in found), (sealed, found))
+        number, after = json.loads(sealed).get("sealed"), json.loads(two.ask(json.dumps({"op": "call", "proc": "long", "args": []})))
+        epochs = {each.get("epoch", 0) for each in found}
+        tests.check("no call of the batch is behind the epoch that the seal began, in which the next call is", max(epochs) <= number + 1 and after.get("epoch", 0) == number + 1, (number, epochs, after))
         server.stop()
         run = server.end()
         tests.check("a server that lasts is stopped", (run.status, run.out) == (0, lines({"generations": 1}, tree(5))), run)

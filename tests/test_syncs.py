@@ -77,8 +77,9 @@ def test_a_copy_waits(tests):
     disk = Disk(library(tests.folder), tests.folder)
     tests.path("copies").mkdir()
     with serving(tests, "--store", STORE, "--snapshots", "copies", connections=None, env=disk.recording()) as server:
-        peer, control = Peer(server.port), Peer(server.control)
-        peer.ask(ADD)
+        Peer(server.port).ask(ADD)
+        # A control has ten seconds for its line.
+        control = Peer(server.control)
         held = waits_for_the_disk(disk, [control], lambda: control.send("snapshot one.db"))
         tests.check("a copy waits for its sync", held, "its answer came before")
         answer = control.lines.readline()

@@ -298,7 +298,7 @@ def loops_of(body):
         if not isinstance(it, (list, tuple)):
             return 0
         inner = max(map(depth, it), default=0)
-        return inner + (isinstance(it, tuple) and it[:1] and it[0] in ("repeat", "while", "each"))
+        return inner + (isinstance(it, tuple) and it[:1] in (("repeat",), ("while",), ("each",)))
 
     return depth(body)
 
