@@ -247,3 +247,22 @@ def test_links(tests):
     for page in files_of_repository("*.md"):
         names = [name for name in re.findall(r"`([\w./-]+\.md)`", text_of(page)) if not is_there(page, name)]
         tests.same(f"{page.relative_to(TOP)}: what leads nowhere", [*lost_links(page), *names], [])
+
+
+# A command of the program in code, with its words: an indented line, or between backticks.
+CODE = re.compile(r"^    (.+)$|`([^`\n]+)`", re.MULTILINE)
+COMMAND = re.compile(r"(?:\$ )?(?:\./)?treedb (?:--unproved )?([a-z]+)\b(.*)")
+
+
+def test_options_that_pages_name(tests):
+    """Each command that a page names is one of the program's, and has the options that stand behind it."""
+    named = {}
+    for page in files_of_repository("*.md"):
+        for code in map("".join, CODE.findall(page.read_text(encoding="utf-8"))):
+            if found := COMMAND.match(code.strip().partition(" | ")[0]):
+                command, words = found.groups()
+                named.setdefault(command, {}).update(dict.fromkeys(re.findall(r"(?<![\w-])--[a-z]+(?:-[a-z]+)*", words.partition("; ")[0]), page.relative_to(TOP)))
+    tests.check("the pages name commands", len(named) > 15, sorted(named))
+    for (command, options), run in zip(named.items(), tests.runs(*([command, "--help"] for command in named))):
+        unknown = {option: str(page) for option, page in options.items() if not re.search(rf"{option}\b(?!-)", run.out)}
+        tests.check(f"{command} and its options", run.status == 0 and unknown == {}, (run.status, unknown))
