@@ -4,7 +4,6 @@ import contextlib
 import json
 import os
 import pathlib
-import statistics
 import time
 
 from running import alone, compiled, skip
@@ -134,33 +133,36 @@ def test_a_node_that_is_freed(tests):
     skip("no two calls come at once on this machine")
 
 
-# So many batches of short calls are timed on one worker and on four, in turn; and so many calls come before, by which a server learns that they are short.
-TIMED, LEARNT = 40, 16
+# So many calls come before, by which a server learns that they are short; and so many batches of them are looked at.
+LEARNT, LOOKED_AT = 16, 40
 SHORT = json.dumps({"op": "register", "name": "short", "asm": "arity 0\nset v1 1\nrep 10\nadd v0 v0 v1 else L\nend\nL:\nemit v0\nret\n"})
 
 
-def slower(peer):
-    """How much longer short calls take on four workers than on one."""
-    times = {1: [], 4: []}
-    for _ in range(TIMED):
-        for workers, took in times.items():
-            began = time.perf_counter()
-            peer.ask(batch("short", 256, workers))
-            took.append(time.perf_counter() - began)
-    return statistics.median(times[4]) / statistics.median(times[1])
+def times(server):
+    """How long each of its threads has had a processor, in nanoseconds."""
+    return {task.name: int((task / "schedstat").read_text().split()[0]) for task in tasks(server)}
+
+
+def done_by_others(server, peer):
+    """The part of the time of batches of short calls that other threads than the batches' own take."""
+    before = times(server)
+    for _ in range(LOOKED_AT):
+        peer.ask(batch("short", 256))
+    took = [time - before.get(thread, 0) for thread, time in times(server).items()]
+    return 1 - max(took) / sum(took)
 
 
 @alone
-def test_short_calls_on_several_workers(tests):
-    """Others help with a batch where that pays: so short calls take about as long on four workers as on one, also when a server has done many of them. A busy machine may hold one of the tries up."""
-    if len(os.sched_getaffinity(0)) < 2:
-        skip("there is one processor")
+def test_short_calls(tests):
+    """Others help with a batch where that pays: with short calls one thread is as fast as several, also when a server has done many of them. On a busy machine others may help now and then."""
     with serving(tests, connections=None) as server:
+        if not (next(tasks(server)) / "schedstat").exists():
+            skip("the system doesn't tell how long threads have a processor")
         peer = Peer(server.port)
         peer.ask(SHORT)
         for _ in range(LEARNT):
             peer.ask(batch("short", 256))
         found = []
-        while len(found) < 3 and (not found or found[-1] > 2):
-            found.append(slower(peer))
-    tests.check("short calls on four workers", found[-1] <= 2, found)
+        while len(found) < 3 and (not found or found[-1] > 1 / 3):
+            found.append(done_by_others(server, peer))
+    tests.check("others do little of batches of short calls", found[-1] <= 1 / 3, found)
