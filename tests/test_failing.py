@@ -102,12 +102,12 @@ def copied(tests, name, to):
             shutil.copyfile(tests.path(name + suffix), tests.path(to + suffix))
 
 
-def ends_as_said(tests, name, run, what):
+def ends_as_said(tests, name, run, what, also=()):
     """A server whose disk failed, or that was killed there."""
     if what == "kill":
         return tests.check(f"{name}: it is killed", run.status == KILLED, run)
-    wanted = lines({"error": [FAILURES[what]]})
-    return tests.check(f"{name}: the status and the number", (run.status, run.out) == (3, wanted), run)
+    wanted = [lines({"error": [number]}) for number in (FAILURES[what], *also)]
+    return tests.check(f"{name}: the status and the number", run.status == 3 and run.out in wanted, run)
 
 
 def has_all(tests, name, store, answers):
@@ -134,7 +134,8 @@ def has_all(tests, name, store, answers):
     except NotStarted as refused:
         tests.check(f"{name}: the next start takes the store up", False, refused.run)
         return
-    replies = [json.loads(reply) for reply, in stored(tests, store, "select reply from reply")]
+    files = sorted(f"{store}/{path.name}" for path in tests.path(store).glob("*.db")) if tests.path(store).is_dir() else [store]
+    replies = [json.loads(reply) for file in files for reply, in stored(tests, file, "select reply from reply")]
     missing = [reply for reply in answers.values() if reply not in replies]
     tests.check(f"{name}: the next start has each reply", missing == [], missing)
     run = tests.run("audit", store)
@@ -426,6 +427,37 @@ def test_copies(tests):
 
     for what in ("kill", *FAILURES):
         at_its_calls(tests, built, "a copy", what, once)
+
+
+def test_carry_overs(tests):
+    """A server whose disk fails, or that is killed, as it goes on in a new volume or behind that. The next start has each answer in one of the volumes, and goes on in a new one again."""
+    built, before = library(tests.folder), Answers()
+    with serving(tests, "--store", "before/", connections=None) as server:
+        ask_until_the_end(server, [ADD, *(keyed(f"before {number}") for number in range(KEPT)), register(TEXT)], before)
+        server.kill()
+
+    def once(it):
+        store = it.store.removesuffix(".db")
+        shutil.copytree(tests.path("before"), tests.path(store))
+        answers = Answers()
+        answers.keyed, answers.told = dict(before.keyed), list(before.told)
+        with serving(tests, "--store", store, connections=None, tree=None, env=it.disk.failing(it.number, it.what, later=True)) as server:
+            Peer(server.port).ask(keyed("before 0"))
+            it.disk.now()
+            run = tests.run("volume", "--port", str(server.control))
+            ask_until_the_end(server, [keyed("behind"), call(0, 10), batch(1, 2)], answers)
+            if it.disk.calls() < it.number:
+                tests.check(f"{it.name}: a new volume", run.status == 0, run)
+                return False
+            # Where a volume that wasn't begun can't be removed, the store fails, whatever the reason is.
+            ends_as_said(tests, it.name, server.end(), it.what, also=[1011])
+        has_all(tests, it.name, store, answers)
+        with serving(tests, "--store", store, connections=None, tree=None) as server:
+            tests.check(f"{it.name}: a new volume later", "reply" in Peer(server.port).ask(call(0, 0)) and tests.run("volume", "--port", str(server.control)).status == 0, server.said)
+        return True
+
+    for what in ("kill", *FAILURES):
+        at_its_calls(tests, built, "a new volume", what, once)
 
 
 def judge_copy(tests, name, what, run, copy):

@@ -245,7 +245,7 @@ def test_one_folder(tests):
 
 def told(epoch, generation, calls, connections, nodes, procedures, refusals):
     numbers = {"epoch": epoch, "generation": generation, "calls": calls, "connections": connections, "nodes": nodes, "procedures": procedures}
-    return lines({**numbers, "refusals": refusals, "places": 256, "browsers": 0})
+    return lines({**numbers, "refusals": refusals, "places": 256, "browsers": 0, "volume": 0})
 
 
 def test_status(tests):
@@ -270,7 +270,7 @@ def test_status(tests):
         with Peer(server.control).socket as asking:
             asking.sendall(b"status\n")
             line = asking.recv(4096)
-        tests.check("status: the line", line.startswith(b'{"epoch":3,"generation":1,"calls":4,"connections":') and line.endswith(b',"nodes":1,"procedures":2,"refusals":4,"places":256,"browsers":0}\n'), line)
+        tests.check("status: the line", line.startswith(b'{"epoch":3,"generation":1,"calls":4,"connections":') and line.endswith(b',"nodes":1,"procedures":2,"refusals":4,"places":256,"browsers":0,"volume":0}\n'), line)
         for wrong in ("statu", "statux", "status ", "Status", "state"):
             other = Peer(server.control)
             other.send(wrong)

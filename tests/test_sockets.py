@@ -58,7 +58,7 @@ def test_both_kinds(tests):
                 answers = one.ask(ADD), one.ask(CALL), two.ask(CALL)
                 tests.check(f"{name}: the answers", answers == (BOUNDS, '{"call":0,"reply":[8]}\n', '{"call":1,"reply":[11]}\n'), answers)
                 status = server.status()
-                wanted = (0, lines({"epoch": 0, "generation": 0, "calls": 2, "connections": 2, "nodes": 1, "procedures": 1, "refusals": 0, "places": 256, "browsers": 0})) if connections is None else (3, lines({"error": [33]}))
+                wanted = (0, lines({"epoch": 0, "generation": 0, "calls": 2, "connections": 2, "nodes": 1, "procedures": 1, "refusals": 0, "places": 256, "browsers": 0, "volume": 0})) if connections is None else (3, lines({"error": [33]}))
                 tests.check(f"{name}: the status", (status.status, status.out) == wanted, status)
                 asking = Peer(tests.path(control) if control else server.control)
                 found = asking.ask("status" if connections else "end it")

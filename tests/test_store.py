@@ -144,7 +144,7 @@ def test_foreign(tests):
     tests.answers("a file with other tables", [*words, "other.db"], 1, lines({"error": [1003, 9]}))
     tests.check("a file with other tables stays", tests.bytes("other.db") == before, "it is another")
     tests.path("folder.db").mkdir()
-    tests.answers("a folder", [*words, "folder.db"], 3, lines({"error": [1001, 3]}))
+    tests.answers("a folder without volumes", [*words, "folder.db"], 1, lines({"error": [1008]}))
     tree = ["--tree", "examples/one-node.json"]
     tests.answers("a file in no folder", [*words, "nowhere/things.db", *tree], 3, lines({"error": [1001, 2]}))
     tests.path("played.db").touch()

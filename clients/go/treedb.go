@@ -317,7 +317,7 @@ func (db *Client) Seal(ctx context.Context) (int64, error) {
 }
 
 // Status is what a server says of itself.
-type Status struct{ Epoch, Generation, Calls, Connections, Nodes, Procedures, Refusals, Places, Browsers int64 }
+type Status struct{ Epoch, Generation, Calls, Connections, Nodes, Procedures, Refusals, Places, Browsers, Volume int64 }
 
 // StatusOf asks a server on its control port or control socket what it says of itself.
 func StatusOf(ctx context.Context, network, address string) (Status, error) {

@@ -384,8 +384,8 @@ func TestReadingAndTheControl(t *testing.T) {
 	if !bytes.Contains([]byte(lines.all()[0]), []byte("get v1 n0 7")) {
 		t.Fatal(lines.all())
 	}
-	address, _ = serving(t, inTurn(`{"epoch":3,"generation":1,"calls":9,"connections":2,"nodes":40,"procedures":4,"refusals":5,"places":256,"browsers":1}`, `{"stopping":true}`))
-	if status, err := StatusOf(context.Background(), "tcp", address); err != nil || status != (Status{3, 1, 9, 2, 40, 4, 5, 256, 1}) {
+	address, _ = serving(t, inTurn(`{"epoch":3,"generation":1,"calls":9,"connections":2,"nodes":40,"procedures":4,"refusals":5,"places":256,"browsers":1,"volume":0}`, `{"stopping":true}`))
+	if status, err := StatusOf(context.Background(), "tcp", address); err != nil || status != (Status{3, 1, 9, 2, 40, 4, 5, 256, 1, 0}) {
 		t.Fatal(status, err)
 	}
 	if err := Stop(context.Background(), "tcp", address); err != nil {

@@ -29,7 +29,7 @@ atomic proc sell(shelf, amount) { lock s = node(shelf); }
 proc look() {} // proc none(x)
 """
 BOUNDS = {"emits": 2, "locks": 1, "steps": 17}
-TOLD = {"epoch": 3, "generation": 1, "calls": 9, "connections": 2, "nodes": 40, "procedures": 4, "refusals": 0, "places": 256, "browsers": 0}
+TOLD = {"epoch": 3, "generation": 1, "calls": 9, "connections": 2, "nodes": 40, "procedures": 4, "refusals": 0, "places": 256, "browsers": 0, "volume": 0}
 
 
 def answering(request):
@@ -102,7 +102,7 @@ class Commands(unittest.TestCase):
 
     def test_the_control(self):
         self.assertEqual(self.ran("status", is_json=True), (0, json.dumps(TOLD, separators=(",", ":")) + "\n", ""))
-        self.assertEqual(self.ran("status", "stop")[1].splitlines()[-2:], ["browsers 0", "the server is stopping"])
+        self.assertEqual(self.ran("status", "stop")[1].splitlines()[-2:], ["volume 0", "the server is stopping"])
 
     def test_what_the_server_was_not_started_for(self):
         status, _, said = self.ran("snapshot monday.db")

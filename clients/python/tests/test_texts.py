@@ -72,7 +72,7 @@ class Texts(unittest.TestCase):
 
 
 class ControlPorts(unittest.TestCase):
-    TOLD = {"epoch": 3, "generation": 1, "calls": 9, "connections": 2, "nodes": 40, "procedures": 4, "refusals": 0, "places": 256, "browsers": 0}
+    TOLD = {"epoch": 3, "generation": 1, "calls": 9, "connections": 2, "nodes": 40, "procedures": 4, "refusals": 0, "places": 256, "browsers": 0, "volume": 0}
 
     def test_status(self):
         with serving(lambda line: self.TOLD) as server:
@@ -93,6 +93,13 @@ class ControlPorts(unittest.TestCase):
         with serving(lambda line: {"stopping": True}) as server:
             self.assertIsNone(treedb.stop(port=server.port))
         self.assertEqual(server.heard, [b"stop\n"])
+
+    def test_volume(self):
+        with serving(lambda line: {"volume": 16}) as server:
+            self.assertEqual(treedb.volume(port=server.port), 16)
+        self.assertEqual(server.heard, [b"volume\n"])
+        with serving(lambda line: {"error": [901]}) as server, self.assertRaises(treedb.Refused):
+            treedb.volume(port=server.port)
 
     def test_snapshot(self):
         with serving(lambda line: {"snapshot": "monday.db"}) as server:

@@ -22,7 +22,7 @@ language can do the same; `docs/use/faults.md` has all numbers.
 
 from .aio import AsyncClient
 from .client import Client
-from .control import Status, snapshot, status, stop
+from .control import Status, snapshot, status, stop, volume
 from .errors import Disconnected, Error, Exhausted, MissingNode, Refused, TimedOut, Unanswered
 from .faults import FAULTS
 from .names import Names
@@ -32,5 +32,5 @@ from .stores import write_names
 from .texts import script
 
 __all__ = ["FAULTS", "Answer", "AsyncClient", "Batch", "Bounds", "Client", "Disconnected", "Error", "Exhausted", "MissingNode", "Names", "Pool", "Recalled",
-           "Refused", "Status", "TimedOut", "Unanswered", "new_key", "script", "snapshot", "status", "stop", "write_names"]
+           "Refused", "Status", "TimedOut", "Unanswered", "new_key", "script", "snapshot", "status", "stop", "volume", "write_names"]
 __version__ = "0.1.0"

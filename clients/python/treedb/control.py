@@ -32,6 +32,8 @@ class Status(NamedTuple):
     """how many connections may be open at once"""
     browsers: int = 0
     """the connections that a browser opened, which were ended"""
+    volume: int = 0
+    """the number of the live volume of its store: how many epochs the volumes before it have; 0 of a store in one file, and without one"""
 
 
 def status(host: str = LOOPBACK, port: int | None = None, *, path: str | os.PathLike[str] | None = None, timeout: float | None = TIMEOUT) -> Status:
@@ -46,6 +48,12 @@ def snapshot(name: str, host: str = LOOPBACK, port: int | None = None, *, path: 
     if "\n" in name:
         raise ValueError("a copy's name is one line")
     _told(f"snapshot {name}", address_of(host, port, path), timeout)
+
+
+def volume(host: str = LOOPBACK, port: int | None = None, *, path: str | os.PathLike[str] | None = None, timeout: float | None = TIMEOUT) -> int:
+    """Has a server go on in a new volume of its store, which is a folder: the number of the live one. The volumes before it never change again. A server whose store is one file, or that has
+    none, refuses with 901."""
+    return int(_told("volume", address_of(host, port, path), timeout)["volume"])
 
 
 def stop(host: str = LOOPBACK, port: int | None = None, *, path: str | os.PathLike[str] | None = None, timeout: float | None = TIMEOUT) -> None:

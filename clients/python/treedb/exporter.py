@@ -37,6 +37,7 @@ METRICS = {
     "refusals": Metric("treedb_refusals_total", "counter", "The requests and calls that were refused since the start."),
     "places": Metric("treedb_places", "gauge", "How many connections may be open at once."),
     "browsers": Metric("treedb_browsers_total", "counter", "The connections that a browser opened, which were ended."),
+    "volume": Metric("treedb_volume", "gauge", "The number of the live volume of the store."),
 }
 UP = Metric("treedb_up", "gauge", "Whether the server answers at its control.")
 

@@ -306,6 +306,11 @@ def snapshot(shell: Shell, words: list[str]) -> None:
     shell.say(words[0], {"snapshot": words[0]})
 
 
+def volume(shell: Shell, _: list[str]) -> None:
+    number = control.volume(**shell.control.words("control"), timeout=None)
+    shell.say(f"volume {number}", {"volume": number})
+
+
 def stop(shell: Shell, _: list[str]) -> None:
     control.stop(**shell.control.words("control"), timeout=shell.timeout)
     shell.say("the server is stopping", {"stopping": True})
@@ -335,6 +340,7 @@ COMMANDS: dict[str, Command] = {command.usage.split()[0]: command for command in
     Command("explain NUMBER", "prints what the number of a refusal means, and what to do", explain, ("number",)),
     Command("status", "prints what the server says of itself, by its control", status),
     Command("snapshot NAME", "has the server copy its store, by its control", snapshot),
+    Command("volume", "has the server go on in a new volume of its store, by its control", volume),
     Command("stop", "has the server end, by its control", stop),
     Command("help [command]", "prints the commands", help_with, ("command",)),
     Command("quit", "ends the shell", leave),
@@ -343,7 +349,7 @@ COMMANDS: dict[str, Command] = {command.usage.split()[0]: command for command in
 
 IN_SESSIONS = "this server is in session mode (--connections), which has no such request"
 # What to do where the server doesn't know what a command asks for.
-UNKNOWN = {"snapshot": "start the server with --store and --snapshots: this one makes no copies", **dict.fromkeys(("register", "replace", "grow", "status"), IN_SESSIONS)}
+UNKNOWN = {"volume": "start the server with --store FOLDER/: this one's store has no volumes", "snapshot": "start the server with --store and --snapshots: this one makes no copies", **dict.fromkeys(("register", "replace", "grow", "status"), IN_SESSIONS)}
 
 
 # ---- words

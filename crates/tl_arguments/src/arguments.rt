@@ -3,9 +3,11 @@
 use crate::help::{
     ALONE_HELP, ASM_HELP, AUDIT_HELP, CHECK_HELP, COMPILE_HELP, DIS_HELP, DRIVE_HELP, EXPLAIN_HELP,
     EXPORT_HELP, HELP, MIGRATE_HELP, PROCS_HELP, REGISTER_HELP, REPLACE_HELP, RUN_HELP, SERVE_HELP,
-    SNAPSHOT_HELP, STATUS_HELP, STOP_HELP, VERIFY_HELP, WIDEN_HELP,
+    SNAPSHOT_HELP, STATUS_ABOUT, STATUS_HELP, STOP_ABOUT, STOP_HELP, VERIFY_HELP, VOLUME_ABOUT,
+    VOLUME_HELP, WIDEN_HELP,
 };
 use crate::rows::{Reading, Row};
+use crate::serving::{address_rows, connection_rows, epoch_rows, store_rows};
 use clap::{Arg, ArgAction, Command, value_parser};
 use std::alloc::{AllocError, Global};
 
@@ -21,7 +23,7 @@ fn tree() -> Row {
     Row::option("tree", "T", "The file of the tree, as JSON").required()
 }
 
-fn nodes() -> Row {
+pub(crate) fn nodes() -> Row {
     Row::option(
         "nodes",
         "N",
@@ -30,7 +32,7 @@ fn nodes() -> Row {
     .as_a(Reading::Nodes)
 }
 
-fn save() -> Row {
+pub(crate) fn save() -> Row {
     Row::option(
         "save",
         "F",
@@ -42,7 +44,7 @@ fn trail() -> Row {
     trail_with("The file that the trail is written to")
 }
 
-fn trail_with(help: &'static str) -> Row {
+pub(crate) fn trail_with(help: &'static str) -> Row {
     Row::option("trail", "F", help)
 }
 
@@ -51,7 +53,7 @@ fn script() -> Row {
 }
 
 // Procedures, each option with all of a file or with one.
-fn procedures(help: &'static str) -> Row {
+pub(crate) fn procedures(help: &'static str) -> Row {
     Row::option("proc", "[NAME=]FILE", help).as_a(Reading::Texts)
 }
 
@@ -61,14 +63,14 @@ fn script_procedures() -> Row {
     )
 }
 
-fn port(help: &'static str) -> Row {
+pub(crate) fn port(help: &'static str) -> Row {
     Row::option("port", "P", help)
         .required_unless([Some("socket"), None, None])
         .excluding("socket")
         .as_a(Reading::Positive)
 }
 
-fn socket(help: &'static str) -> Row {
+pub(crate) fn socket(help: &'static str) -> Row {
     Row::option("socket", "PATH", help)
 }
 
@@ -83,7 +85,9 @@ fn read_as<'a>(arg: Arg<'a>, reading: Reading) -> Arg<'a> {
         Reading::Number => arg.value_parser(value_parser!(u16)),
         Reading::Positive => arg.value_parser(value_parser!(u16).range(1..)),
         Reading::Nodes => arg.value_parser(value_parser!(u32).range(1..=i64::from(MOST_NODES))),
+        Reading::Calls => arg.value_parser(value_parser!(u32).range(1..=16_777_216)),
         Reading::Places => arg.value_parser(value_parser!(u16).range(1..=1024)),
+        Reading::Epoch => arg.value_parser(value_parser!(u32)),
         Reading::Epochs => arg.value_parser(value_parser!(u16).range(1..=128)),
         Reading::Workers => arg.value_parser(value_parser!(usize).range(1..=16)),
     }
@@ -165,6 +169,7 @@ enum Name {
     Serve,
     Status,
     Snapshot,
+    Volume,
     Register,
     Replace,
     Stop,
@@ -181,13 +186,14 @@ enum Name {
     Explain,
 }
 
-const NAMES: [Name; 20] = [
+const NAMES: [Name; 21] = [
     Name::Alone,
     Name::Drive,
     Name::Run,
     Name::Serve,
     Name::Status,
     Name::Snapshot,
+    Name::Volume,
     Name::Register,
     Name::Replace,
     Name::Stop,
@@ -265,112 +271,6 @@ fn run_command<'a>(alloc: Global) -> Result<Command<'a>, AllocError> {
             script(),
         ],
     )
-}
-
-// What a server begins with.
-fn store_rows() -> [Row; 5] {
-    [
-        Row::option(
-            "tree",
-            "T",
-            "The file of the tree, as JSON; with --store, only where the store is made",
-        )
-        .required_unless([Some("store"), None, None]),
-        Row::option(
-            "store",
-            "FILE",
-            "The file that the tree, the procedures and the calls are stored in: what was answered is found again after a crash",
-        ),
-        Row::option(
-            "snapshots",
-            "FOLDER",
-            "The folder that `treedb snapshot` has copies of the store written to",
-        ),
-        procedures(
-            "Procedures to register first: all of a text of the procedure language, or as NAME the one of a `.tdb`, `.tlp` or assembler file; of a server that seals itself",
-        ),
-        nodes(),
-    ]
-}
-
-// Where a server listens.
-fn address_rows() -> [Row; 3] {
-    [
-        port("The port of this machine, 1 to 65535"),
-        socket("The file of a Unix socket in the place of the port"),
-        Row::option(
-            "mode",
-            "OCTAL",
-            "The permissions of the files of sockets and of a new store, three octal digits; if not given, 600 of sockets, the user of the server alone, and 644 of a store, less the umask",
-        ),
-    ]
-}
-
-// Who is served: how many connections, how many at once, and for how long one may be silent.
-fn connection_rows() -> [Row; 5] {
-    [
-        Row::option(
-            "connections",
-            "C",
-            "How many connections are served in all, 1 to 65535; if not given, any number until the server is stopped",
-        )
-        .as_a(Reading::Positive)
-        .required_with("seal", "by-hand"),
-        Row::option(
-            "at-once",
-            "N",
-            "How many connections may be open at once, 1 to 1024; if not given, 256, or 8 with --connections",
-        )
-        .as_a(Reading::Places),
-        Row::option(
-            "control",
-            "P",
-            "A second port of this machine, on which `treedb stop` asks the server to end",
-        )
-        .as_a(Reading::Positive)
-        .required_unless([Some("connections"), Some("control-socket"), Some("store")])
-        .excluding("control-socket"),
-        Row::option(
-            "control-socket",
-            "PATH",
-            "The file of a Unix socket in the place of that port",
-        ),
-        Row::option(
-            "idle",
-            "S",
-            "After how many seconds a connection is ended that sends nothing or takes no answer",
-        )
-        .as_a(Reading::Positive),
-    ]
-}
-
-// How a server goes on when an epoch is full, and what it writes.
-fn epoch_rows() -> [Row; 6] {
-    [
-        Row::option(
-            "seal",
-            "HOW",
-            "Who seals an epoch that is full: its clients, `by-hand`, or the server, `itself`, as it does if --connections isn't given",
-        ),
-        Row::option(
-            "generation",
-            "G",
-            "After how many epochs a server that seals itself begins a new generation, 1 to 128; 16 if not given",
-        )
-        .as_a(Reading::Epochs),
-        Row::option(
-            "trails",
-            "FOLDER",
-            "The folder that each generation's trails are written to, as 0.json, 1.json and so on",
-        )
-        .excluding("trail"),
-        Row::flag(
-            "frozen",
-            "Refuses registering, replacing, appending and sealing on the port; the control still does that",
-        ),
-        trail_with("The file that the trail is written to, of a server whose clients seal"),
-        save(),
-    ]
 }
 
 fn serve_command<'a>(alloc: Global) -> Result<Command<'a>, AllocError> {
@@ -511,6 +411,31 @@ fn reading_command<'a>(
     command_of(alloc, name, about, help, &[file])
 }
 
+fn export_command<'a>(alloc: Global) -> Result<Command<'a>, AllocError> {
+    command_of(
+        alloc,
+        "export",
+        "Writes what the calls of a store did, as trails that `audit` checks; or its tree as it was",
+        EXPORT_HELP,
+        &[
+            Row::file(
+                "STORE",
+                "The file of the store, or the folder of its volumes",
+            ),
+            Row::file(
+                "FOLDER",
+                "The folder for the trails: 0.json, 1.json, ..; with --until the file for the tree",
+            ),
+            Row::option(
+                "until",
+                "EPOCH",
+                "Writes no trails, but the tree as it was after that epoch",
+            )
+            .as_a(Reading::Epoch),
+        ],
+    )
+}
+
 // The command that reads one file and writes another, or others.
 fn writing_command<'a>(
     alloc: Global,
@@ -531,7 +456,7 @@ fn command_named<'a>(alloc: Global, name: Name) -> Result<Command<'a>, AllocErro
         Name::Status => control_command_for(
             alloc,
             "status",
-            "Prints what a server of this machine that lasts says of itself",
+            STATUS_ABOUT,
             STATUS_HELP,
             Row::flag("wait", "Waits until a server answers there"),
         ),
@@ -542,6 +467,7 @@ fn command_named<'a>(alloc: Global, name: Name) -> Result<Command<'a>, AllocErro
             SNAPSHOT_HELP,
             Row::file("NAME", "The copy's name, as in monday.db"),
         ),
+        Name::Volume => control_command(alloc, "volume", VOLUME_ABOUT, VOLUME_HELP),
         Name::Register => control_command_for(
             alloc,
             "register",
@@ -556,23 +482,9 @@ fn command_named<'a>(alloc: Global, name: Name) -> Result<Command<'a>, AllocErro
             REPLACE_HELP,
             text(),
         ),
-        Name::Stop => control_command(
-            alloc,
-            "stop",
-            "Asks a server of this machine to answer what it has read, and to end",
-            STOP_HELP,
-        ),
+        Name::Stop => control_command(alloc, "stop", STOP_ABOUT, STOP_HELP),
         Name::Audit => audit_command(alloc),
-        Name::Export => writing_command(
-            alloc,
-            "export",
-            "Writes what the calls of a store did, as trails that `audit` checks",
-            EXPORT_HELP,
-            [
-                Row::file("STORE", "The file of the store"),
-                Row::file("FOLDER", "The folder for the trails: 0.json, 1.json, .."),
-            ],
-        ),
+        Name::Export => export_command(alloc),
         Name::Check => check_command(alloc),
         Name::Compile => compile_command(alloc),
         Name::Procs => reading_command(

@@ -3,6 +3,8 @@
 ghost use Rattle.std.specs.Prelude.{◌<◌, IfSome};
 
 use crate::arguments::command;
+use crate::asking::{asks_control, control_request};
+use crate::store_files::{StoreFiles, store_files};
 use clap::error::ErrorKind;
 use clap::{ArgMatches, Error};
 use std::alloc::{AllocError, Global};
@@ -151,17 +153,11 @@ pub enum Request<'a> {
         command: CallCommand<'a>,
         outputs: Outputs<'a>,
     },
-    /// Serve connections on what a store's file holds, or on this tree where the file isn't there, with these procedures.
+    /// Serve connections on what a store holds, or on its tree where there is none yet, with these procedures.
     Store {
-        store: &'a str,
-        tree: Option<&'a str>,
-        /// The folder of the store's copies.
-        copies: Option<&'a str>,
-        /// The permissions of a store's file that is made.
-        mode: Option<u32>,
+        files: StoreFiles<'a>,
         options: ServeOptions<'a>,
         procedures: Vec<&'a str>,
-        save: Option<&'a str>,
     },
     Files(FileCommand<'a>),
     /// Say whether the calls of trails may have done what these say. Each file or folder goes on where the one before it ends.
@@ -177,10 +173,20 @@ pub enum Request<'a> {
         store: &'a str,
         folder: &'a str,
     },
+    /// Write the tree of a store as it was after that epoch into a file.
+    Restore {
+        store: &'a str,
+        file: &'a str,
+        epoch: u32,
+    },
     /// Ask the server with this control port or socket to copy its store into a file of that name.
     Copy {
         control: Address<'a>,
         name: &'a str,
+    },
+    /// Ask the server with this control port or socket to go on in a new volume of its store.
+    Turn {
+        control: Address<'a>,
     },
     /// Ask the server with this control port or socket to take the procedures of a text.
     Rule {
@@ -273,8 +279,8 @@ fn octal(digits: &str) -> Option<u32>
     Some(octal_digit(owner)? * 64 + octal_digit(group)? * 8 + octal_digit(others)?)
 }
 
-// The permissions of the files that are made, of sockets and of a store, if the words say them; or why the options don't go together.
-fn mode_of(words: &ArgMatches<'_>) -> Result<Option<u32>, &'static str> {
+/// The permissions of the files that are made, of sockets and of a store, if the words say them; or why the options don't go together.
+pub(crate) fn mode_of(words: &ArgMatches<'_>) -> Result<Option<u32>, &'static str> {
     let Some(digits) = words.get_str("mode") else {
         return Ok(None);
     };
@@ -353,13 +359,9 @@ fn serve_options<'a>(words: &ArgMatches<'a>) -> Option<ServeOptions<'a>> {
 // What a server with a store is asked for.
 fn store_request<'a>(alloc: Global, words: &ArgMatches<'a>) -> Option<Request<'a>> {
     Some(Request::Store {
-        store: words.get_str("store")?,
-        tree: words.get_str("tree"),
-        copies: words.get_str("snapshots"),
-        mode: mode_of(words).ok()?,
+        files: store_files(words)?,
         options: serve_options(words)?,
         procedures: all_of(alloc, words, "proc")?,
-        save: words.get_str("save"),
     })
 }
 
@@ -428,6 +430,13 @@ fn asked_of<'a>(alloc: Global, matches: &ArgMatches<'a>) -> Option<Asked<'a>> {
         if words.contains_id("snapshots") && !words.contains_id("store") {
             return Some(Asked::Mistaken("--snapshots is for a store: --store"));
         }
+        if (words.contains_id("volume") || words.contains_id("keys"))
+            && !words.contains_id("store")
+        {
+            return Some(Asked::Mistaken(
+                "--volume and --keys are for a store in a folder: --store FOLDER/",
+            ));
+        }
     }
     Some(Asked::Request {
         request: request_of(alloc, name, words)?,
@@ -435,36 +444,10 @@ fn asked_of<'a>(alloc: Global, matches: &ArgMatches<'a>) -> Option<Asked<'a>> {
     })
 }
 
-// What a server is asked for at its control.
-fn control_request<'a>(name: &str, words: &ArgMatches<'a>) -> Option<Request<'a>> {
-    let control = address_of(words, "port", "socket")?;
-    match name {
-        "register" => Some(Request::Rule {
-            control,
-            ruling: Ruling::Register,
-            text: words.get_str("TEXT")?,
-        }),
-        "replace" => Some(Request::Rule {
-            control,
-            ruling: Ruling::Replace,
-            text: words.get_str("TEXT")?,
-        }),
-        "snapshot" => Some(Request::Copy {
-            control,
-            name: words.get_str("NAME")?,
-        }),
-        "status" => Some(Request::Status {
-            control,
-            waits: words.get_flag("wait"),
-        }),
-        _ => Some(Request::Stop { control }),
-    }
-}
-
 // What a command other than `explain` asks for. `None` if memory is refused.
 fn request_of<'a>(alloc: Global, name: &str, words: &ArgMatches<'a>) -> Option<Request<'a>> {
-    if let "register" | "replace" | "snapshot" | "status" | "stop" = name {
-        return control_request(name, words);
+    if asks_control(name) {
+        return control_request(name, address_of(words, "port", "socket")?, words);
     }
     if name == "audit" {
         return Some(Request::Audit {
@@ -474,9 +457,14 @@ fn request_of<'a>(alloc: Global, name: &str, words: &ArgMatches<'a>) -> Option<R
         });
     }
     if name == "export" {
-        return Some(Request::Export {
-            store: words.get_str("STORE")?,
-            folder: words.get_str("FOLDER")?,
+        let (store, folder) = (words.get_str("STORE")?, words.get_str("FOLDER")?);
+        return Some(match words.get_one("until") {
+            Some(epoch) => Request::Restore {
+                store,
+                file: folder,
+                epoch,
+            },
+            None => Request::Export { store, folder },
         });
     }
     if name == "serve" && words.contains_id("store") {

@@ -76,6 +76,8 @@ Example: treedb export things.db trails
 takes all calls again that the store things.db has, and writes what they did into the folder trails, which has to be there and may
 have no such files: 0.json, 1.json and so on. It prints {\"epochs\":E,\"files\":F}. treedb audit trails checks the files. A new file begins
 where the tree has grown, or after 256 epochs. No server may have the store open, and nothing is stored in it.
+With --until E it writes no trails: tree.json of treedb export things.db tree.json --until 16 has the tree as it was after epoch 16 of the
+store, and this prints {\"epoch\":16,\"nodes\":N}. treedb serve --tree tree.json goes on from there.
 Exit status: 0 done, 1 refused, 2 a mistake on the command line, 3 a file that can't be read or written, 4 memory.";
 
 pub const MIGRATE_HELP: &str = "\
@@ -105,7 +107,9 @@ treedb stop --port 7879 ends it: each line that was read is answered, the connec
 it is. After G epochs a new generation begins. With --trails FOLDER a file there has what the calls of a generation did, 0.json,
 1.json and so on, which is written while lines are answered; treedb audit FOLDER checks them.
 With --store FILE all is stored before it is answered: the first start makes FILE of the tree, and later ones, without --tree, go on
-with what it has, also after a crash. With --snapshots FOLDER, treedb snapshot has it copied there.
+with what it has, also after a crash. With --store FOLDER/ the store is a folder of volumes, 0.db and so on: after as many calls as --volume
+says, or when treedb volume asks for it, a new one begins, and those before it never change again: copy, pack or move them as you like. With
+--snapshots FOLDER, treedb snapshot has the store copied there.
 With --connections C it ends by itself after so many connections, and clients seal full epochs: after 4,096 calls each call
 is refused until one does. Then this prints {\"order\":[..]}, the order in which the calls would do the same alone, or
 {\"orders\":[..]}, the order in each epoch, and the tree. With --trail what the calls did and the records in the end are
@@ -123,9 +127,19 @@ pub const SNAPSHOT_HELP: &str = "\
 Example: treedb snapshot --port 7879 monday.db
 asks the server that was started with --control 7879, --store and --snapshots FOLDER to copy its store into FOLDER/monday.db, and
 prints {\"snapshot\":\"monday.db\"} once the copy is whole: one file, which sqlite3 opens and treedb serve --store takes up, with all that was
-answered before. Meanwhile no call is answered. The name is 1 to 64 ASCII letters, digits, _ or -, and then .db; a file that is there isn't
-replaced. With --socket PATH it asks the server with --control-socket PATH.
+answered before. Meanwhile no call is answered. Of a store in volumes the server goes on in a new volume, and the one before is copied while
+calls are answered. The name is 1 to 64 ASCII letters, digits, _ or -, and then .db; a file that is there isn't replaced. With --socket PATH it asks the server with --control-socket PATH.
 Exit status: 0 copied, 1 refused, 2 a mistake on the command line, 3 nobody answers there, or the copy can't be written, 4 memory.";
+
+pub const VOLUME_ABOUT: &str = "Has a server of this machine go on in a new volume of its store";
+
+pub const VOLUME_HELP: &str = "\
+Example: treedb volume --port 7879
+asks the server that was started with --control 7879 and --store FOLDER/ to go on in a new volume of its store, and prints
+{\"volume\":16}, the number of the live one: how many epochs those before it have. FOLDER/16.db is its file. The volumes before it are closed:
+they never change again, and SHA256SUMS lists what sha256sum says of them. Where the live one has no call yet, it stays the live one. With
+--socket PATH it asks the server with --control-socket PATH.
+Exit status: 0 done, 1 refused, 2 a mistake on the command line, 3 nobody answers there, or the volume can't be written, 4 memory.";
 
 pub const REGISTER_HELP: &str = "\
 Example: treedb register stock.tdb --port 7879
@@ -142,6 +156,8 @@ this at its control alone. A text with a fault is shown as by check, and not sen
 --control-socket PATH.
 Exit status: 0 done, 1 refused, 2 a mistake on the command line, 3 nobody answers there, or a file that can't be read, 4 memory.";
 
+pub const STATUS_ABOUT: &str = "Prints what a server of this machine that lasts says of itself";
+
 pub const STATUS_HELP: &str = "\
 Example: treedb status --port 7879
 asks the server that was started with --control 7879 and without --connections how far it is, and prints
@@ -151,6 +167,8 @@ the start; the connections that are open; the tree's nodes; the procedures; the 
 many connections may be open at once; and the connections that a browser opened, which were ended. With --socket PATH it asks the server with --control-socket PATH.
 With --wait it asks until a server answers there: a script that has started one goes on once it is ready.
 Exit status: 0 done, 2 a mistake on the command line, 3 nobody answers there, or a server that doesn't say, 4 memory.";
+
+pub const STOP_ABOUT: &str = "Asks a server of this machine to answer what it has read, and to end";
 
 pub const STOP_HELP: &str = "\
 Example: treedb stop --port 7879

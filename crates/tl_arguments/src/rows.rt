@@ -16,8 +16,12 @@ pub(crate) enum Reading {
     Positive,
     /// 1 to `MOST_NODES`.
     Nodes,
+    /// 1 to 16,777,216.
+    Calls,
     /// 1 to 1,024.
     Places,
+    /// 0 to 4,294,967,295.
+    Epoch,
     /// 1 to 128.
     Epochs,
     /// 1 to 16.

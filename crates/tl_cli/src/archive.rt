@@ -39,9 +39,6 @@ pub trait Finish {
     /// The tree that the last engine left.
     fn tree(&self) -> &Tree;
 
-    /// What the last engine left, if it closed and there is memory.
-    fn left(&mut self, alloc: Global) -> Option<&Legacy>;
-
     /// Why a file wasn't written, of the first one that wasn't.
     fn unwritten(&self) -> Option<CliFault>;
 }
@@ -199,14 +196,6 @@ impl<R: Files + Eprint + Wait> Finish for Archive<R> {
         self.succession.last().tree()
     }
 
-    fn left(&mut self, alloc: Global) -> Option<&Legacy> {
-        if self.has_taken(alloc) {
-            Some(self.succession.last())
-        } else {
-            None
-        }
-    }
-
     fn unwritten(&self) -> Option<CliFault> {
         self.unwritten
     }
@@ -233,6 +222,14 @@ impl<R: Files + Eprint + Wait> Keeper for Archive<R> {
             return None;
         }
         next_engine(alloc, &self.succession).ok()
+    }
+
+    fn left(&mut self, alloc: Global) -> Option<&Legacy> {
+        if self.has_taken(alloc) {
+            Some(self.succession.last())
+        } else {
+            None
+        }
     }
 
     fn nodes(&self) -> u32 {

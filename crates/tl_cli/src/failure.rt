@@ -6,11 +6,11 @@ use tl_commands::CliFault;
 use tl_export::ExportFault;
 use tl_file_journal::StoreRefusal;
 use tl_language_commands::LanguageFault;
-use tl_server::{Address, CopyRefusal};
+use tl_server::{Address, CopyRefusal, VolumeRefusal};
 use tl_store::StoreFault;
 use tl_store_file::FileFault;
 
-/// The fault of a command, or of a command on a text of the procedure language; a store that can't be used, not be exported, or not be copied; a file that can't be read or
+/// The fault of a command, or of a command on a text of the procedure language; a store that can't be used, exported, copied, or go on in a new volume; a file that can't be read or
 /// written, with the system's reason; a port or a socket that can't be opened; or a server that isn't there.
 #[derive(Drop)]
 pub enum Failure<'a> {
@@ -19,6 +19,7 @@ pub enum Failure<'a> {
     Unstored(StoreRefusal),
     Unexported(ExportFault),
     Uncopied(CopyRefusal),
+    Unturned(VolumeRefusal),
     Unreadable {
         path: &'a str,
         reason: io::Error,
@@ -26,6 +27,10 @@ pub enum Failure<'a> {
     Unwritable {
         path: &'a str,
         reason: io::Error,
+    },
+    /// A volume of a store isn't the file that the folder's list has, or doesn't go on where the one before it ends.
+    Unjoined {
+        volume: u64,
     },
     NotOpened {
         address: Address<'a>,
@@ -35,6 +40,10 @@ pub enum Failure<'a> {
         reason: io::Error,
     },
     /// A server's refusal: its line, with its LF.
+    /// The store has no epoch of that number.
+    NoEpoch {
+        epoch: u64,
+    },
     Unheeded {
         answer: String,
     },
@@ -50,6 +59,12 @@ pub enum Fault {
     Record(ExportFault),
     /// A server makes no copy of its store.
     Copy(CopyRefusal),
+    /// A server's store goes on in no new volume.
+    Volume(VolumeRefusal),
+    /// 1020, and the volume that doesn't go on from the one before it.
+    Seam { volume: u64 },
+    /// 1023, and the epoch that the store doesn't have.
+    Epoch { epoch: u64 },
     /// A server refuses: the numbers are in its answer.
     Answered,
 }
@@ -73,8 +88,11 @@ impl Failure<'_> {
             Failure::Unstored(refusal) => Fault::Store(*refusal),
             Failure::Unexported(fault) => of_export(*fault),
             Failure::Uncopied(refusal) => Fault::Copy(*refusal),
+            Failure::Unturned(refusal) => Fault::Volume(*refusal),
             Failure::Unreadable { .. } => Fault::Command(CliFault::Unreadable),
             Failure::Unwritable { .. } => Fault::Command(CliFault::Unwritable),
+            Failure::Unjoined { volume } => Fault::Seam { volume: *volume },
+            Failure::NoEpoch { epoch } => Fault::Epoch { epoch: *epoch },
             Failure::Unheeded { .. } => Fault::Answered,
             Failure::NotOpened { .. } | Failure::NoServer { .. } => {
                 Fault::Command(CliFault::NoPort)
@@ -88,8 +106,9 @@ impl Failure<'_> {
             Fault::Command(fault) => fault.status(),
             Fault::Text(fault) => fault.status(),
             Fault::Store(refusal) => refusal.status(),
-            Fault::Record(_) | Fault::Answered => 1,
+            Fault::Record(_) | Fault::Seam { .. } | Fault::Epoch { .. } | Fault::Answered => 1,
             Fault::Copy(refusal) => refusal.status(),
+            Fault::Volume(refusal) => refusal.status(),
         }
     }
 }
@@ -138,8 +157,14 @@ impl fmt::Display for Failure<'_> {
             Failure::Unstored(refusal) => write!(f, "{refusal}"),
             Failure::Unexported(fault) => write!(f, "{fault}"),
             Failure::Uncopied(refusal) => write!(f, "{refusal}"),
+            Failure::Unturned(refusal) => write!(f, "{refusal}"),
             Failure::Unreadable { path, reason } => write!(f, "{path} can't be read: {reason}"),
             Failure::Unwritable { path, reason } => write!(f, "{path} can't be written: {reason}"),
+            Failure::Unjoined { volume } => write!(
+                f,
+                "the volume {volume} isn't the one that the folder's list has, or doesn't go on where the one before it ends"
+            ),
+            Failure::NoEpoch { epoch } => write!(f, "the store has no epoch {epoch}"),
             Failure::Unheeded { .. } => {
                 write!(
                     f,

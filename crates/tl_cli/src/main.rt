@@ -8,9 +8,11 @@ mod output;
 mod program;
 mod progress;
 mod refused;
+mod seams;
 mod store_files;
 mod texts;
 mod trail_file;
+mod tree_after;
 
 use archive::{Archive, Finish, Trails};
 use clap::Error;
@@ -30,7 +32,7 @@ pub use tl_commands::{
     take_generation, tree_file, tree_of_file, verify_cmd, widen_cmd,
 };
 use tl_file_export::{Epochs, open_epochs};
-use tl_file_journal::{End, StoreRefusal, Stored, open_stored};
+use tl_file_journal::{End, StoreOptions, StoreRefusal, Stored, open_stored};
 use tl_generations::Succession;
 pub use tl_language_commands::{LanguageFault, check_procs_cmd, compile_cmd, procs_cmd};
 use tl_server::{Journal, Keeper, Texts};
@@ -92,10 +94,9 @@ where
     K: Keeper + Texts + Finish + Send + Drop,
     F: FnOnce(Trails, Succession, u32) -> K + Drop,
     J: Journal + End + Sync + Drop,
-    O: FnOnce(&str, Option<Tree>, Option<&str>, Option<u32>) -> Result<Stored<J>, StoreRefusal>
-        + Drop,
+    O: FnOnce(StoreOptions<'_>, Option<Tree>) -> Result<Stored<J>, StoreRefusal> + Drop,
     E: Epochs + Drop,
-    X: FnOnce(&str) -> Result<E, FileFault> + Drop,
+    X: Fn(&str) -> Result<E, FileFault> + Drop,
     requires archive { F.IsAlwaysCallable archive }
     requires opens { O.IsAlwaysCallable opens }
     requires epochs { X.IsAlwaysCallable epochs }
@@ -123,7 +124,7 @@ fn main(rt: HostRuntime) -> ExitCode {
             &words,
             rt.stderr().is_terminal(),
             |trails, succession, nodes| Archive::new(rt, trails, succession, nodes),
-            |path, tree, copies, mode| open_stored(&rt, path, tree, copies, mode),
+            |options, tree| open_stored(&rt, options, tree),
             |path| open_epochs(&rt, path),
         ),
         Err(status) => status,

@@ -42,6 +42,9 @@ pub fn print_failure<R: Print + Eprint>(rt: &R, failure: &Failure<'_>) -> io::Re
         Fault::Store(refusal) => print_numbers(rt, refusal.numbers().as_slice()),
         Fault::Record(fault) => print_numbers(rt, fault.numbers().as_slice()),
         Fault::Copy(refusal) => print_numbers(rt, refusal.numbers().as_slice()),
+        Fault::Volume(refusal) => print_numbers(rt, refusal.numbers().as_slice()),
+        Fault::Seam { volume } => print_numbers(rt, &[1020, volume]),
+        Fault::Epoch { epoch } => print_numbers(rt, &[1023, epoch]),
         Fault::Answered => Ok(()),
     }
 }

@@ -3,9 +3,12 @@
 
 mod auditing;
 mod exporting;
+mod restoring;
+mod saving;
 mod serving;
 mod sources;
 mod storing;
+mod volumes;
 mod watching;
 
 use crate::archive::{Finish, Trails};
@@ -15,7 +18,7 @@ use crate::trail_file::TrailFile;
 use crate::{
     CliFault, Generation, Inputs, LanguageFault, alone_cmd, asm_cmd, check_cmd, check_procs_cmd,
     compile_cmd, dis_cmd, drive_cmd, keep_generation, migrate_cmd, output, procs_cmd, run_cmd,
-    tree_file, verify_cmd, widen_cmd,
+    verify_cmd, widen_cmd,
 };
 use auditing::Auditing;
 use sources::{SourceFile, all_of, source_by_name};
@@ -25,10 +28,9 @@ use std::rt::Files;
 use std::sync::Wait;
 use std::thread::Threads;
 use std::time::Clock;
-use storing::StoreFiles;
 use tl_arguments::{CallCommand, FileCommand, Outputs, Request, ScriptFiles};
 use tl_file_export::Epochs;
-use tl_file_journal::{End, StoreRefusal, Stored};
+use tl_file_journal::{End, StoreOptions, StoreRefusal, Stored};
 use tl_generations::Succession;
 use tl_server::{Journal, Keeper, Texts};
 use tl_sources::{Given, Source};
@@ -311,38 +313,6 @@ impl<'a, R: Files + Print + Eprint + AllocGlobal> Program<'a, R> {
             (Err(fault), _) => Err(Failure::Refused(fault)),
         }
     }
-
-    // Writes a tree to a file, if one is named. It is written next to the file and then renamed, so that the file never has a
-    // part of a tree.
-    fn save<'p>(&self, path: Option<&'p str>, tree: &Tree) -> Result<(), Failure<'p>> {
-        let Some(path) = path else {
-            return Ok(());
-        };
-        let text = tree_file(self.rt.alloc(), tree)?;
-        let part = format!(in self.rt.alloc(); "{path}.part")?;
-        let written = std::fs::write(self.rt, part.as_str(), text.as_bytes());
-        match written.and_then(|()| std::fs::rename(self.rt, part.as_str(), path)) {
-            Ok(()) => Ok(()),
-            Err(reason) => Err(Failure::Unwritable { path, reason }),
-        }
-    }
-
-    // Saves the tree of a server that has ended, if a file is named for it. If it can't be saved, the server's lines are printed all
-    // the same, since they may be all that is left of the tree.
-    fn save_last<'p>(
-        &self,
-        path: Option<&'p str>,
-        tree: &Tree,
-        lines: &str,
-    ) -> Result<(), Failure<'p>> {
-        let Err(failure) = self.save(path, tree) else {
-            return Ok(());
-        };
-        match self.rt.print(lines) {
-            Ok(()) => Err(failure),
-            Err(_) => Err(Failure::Refused(CliFault::Unwritable)),
-        }
-    }
 }
 
 impl<'a, R: Files + Print + Eprint + AllocGlobal + Threads + Wait + Sync> Program<'a, R> {
@@ -454,10 +424,9 @@ where
         K: Keeper + Texts + Finish + Send + Drop,
         F: FnOnce(Trails, Succession, u32) -> K + Drop,
         J: Journal + End + Sync + Drop,
-        O: FnOnce(&str, Option<Tree>, Option<&str>, Option<u32>) -> Result<Stored<J>, StoreRefusal>
-            + Drop,
+        O: FnOnce(StoreOptions<'_>, Option<Tree>) -> Result<Stored<J>, StoreRefusal> + Drop,
         E: Epochs + Drop,
-        X: FnOnce(&str) -> Result<E, FileFault> + Drop,
+        X: Fn(&str) -> Result<E, FileFault> + Drop,
         requires archive { F.IsAlwaysCallable archive }
         requires opens { O.IsAlwaysCallable opens }
         requires epochs { X.IsAlwaysCallable epochs }
@@ -469,23 +438,10 @@ where
                 outputs,
             } => self.answer_calls(tree, command, *outputs, archive),
             Request::Store {
-                store,
-                tree,
-                copies,
-                mode,
+                files,
                 options,
                 procedures,
-                save,
-            } => {
-                let files = StoreFiles {
-                    store,
-                    tree: *tree,
-                    copies: *copies,
-                    mode: *mode,
-                    save: *save,
-                };
-                self.serve_store(files, *options, procedures, archive, opens)
-            }
+            } => self.serve_store(*files, *options, procedures, archive, opens),
             Request::Files(command) => self.answer_files(*command),
             Request::Audit {
                 trails,
@@ -499,12 +455,14 @@ where
                 self.audit(trails, how, epochs)
             }
             Request::Export { store, folder } => self.export(store, folder, epochs),
+            Request::Restore { store, file, epoch } => self.restore(store, file, *epoch, epochs),
             Request::Copy { control, name } => self.copy(*control, name),
             Request::Rule {
                 control,
                 ruling,
                 text,
             } => self.rule(*control, *ruling, text),
+            Request::Turn { control } => self.turn(*control),
             Request::Stop { control } => self.stop(*control),
             Request::Status { control, waits } => self.status(*control, *waits),
         }
@@ -524,10 +482,9 @@ where
         K: Keeper + Texts + Finish + Send + Drop,
         F: FnOnce(Trails, Succession, u32) -> K + Drop,
         J: Journal + End + Sync + Drop,
-        O: FnOnce(&str, Option<Tree>, Option<&str>, Option<u32>) -> Result<Stored<J>, StoreRefusal>
-            + Drop,
+        O: FnOnce(StoreOptions<'_>, Option<Tree>) -> Result<Stored<J>, StoreRefusal> + Drop,
         E: Epochs + Drop,
-        X: FnOnce(&str) -> Result<E, FileFault> + Drop,
+        X: Fn(&str) -> Result<E, FileFault> + Drop,
         requires archive { F.IsAlwaysCallable archive }
         requires opens { O.IsAlwaysCallable opens }
         requires epochs { X.IsAlwaysCallable epochs }

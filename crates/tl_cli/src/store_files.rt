@@ -23,6 +23,8 @@ pub struct FolderFiles<'a, R: Files> {
     folder: &'a str,
     // The file that was begun last, until it is whole.
     open: Option<R::File>,
+    // How many files there were before its first.
+    before: u64,
     files: u64,
     epochs: u64,
 }
@@ -31,18 +33,36 @@ impl<'a, R: Files + Eprint> FolderFiles<'a, R> {
     pub fn new(rt: &'a R, folder: &'a str) -> FolderFiles<'a, R>
         ensures { (result.files ≡ 0) × (result.epochs ≡ 0) }
     {
+        FolderFiles::after(rt, folder, 0)
+    }
+
+    /// The same, where so many files are in the folder already.
+    pub fn after(rt: &'a R, folder: &'a str, before: u64) -> FolderFiles<'a, R>
+        ensures { (result.files ≡ 0) × (result.epochs ≡ 0) }
+    {
         FolderFiles {
             rt,
             folder,
+            before,
             open: None,
             files: 0,
             epochs: 0,
         }
     }
 
+    /// How much was written.
+    pub fn written(&self) -> Written
+        ensures { (result.files ≡ self.now.files) × (result.epochs ≡ self.now.epochs) }
+    {
+        Written {
+            epochs: self.epochs,
+            files: self.files,
+        }
+    }
+
     // The name of the last file, once it is whole.
     fn path(&self, alloc: Global) -> Result<String, ExportFault> {
-        let number = self.files.saturating_sub(1);
+        let number = self.before.saturating_add(self.files.saturating_sub(1));
         Ok(format!(in alloc; "{}/{number}.json", self.folder)?)
     }
 
@@ -156,11 +176,8 @@ pub fn write_trails<R: Files + Eprint + Drop, E: Epochs>(
 ) -> Result<Written, ExportFault>
     ensures { IfOk result (λ w. HasExported (AreSoMany w.files w.epochs) (E.is_clean epochs.new) (E.holds epochs.old)) }
 {
-    let written = epochs.export(alloc, FolderFiles::new(rt, folder))?;
-    Ok(Written {
-        epochs: written.epochs,
-        files: written.files,
-    })
+    let files = epochs.export(alloc, FolderFiles::new(rt, folder))?;
+    Ok(files.written())
 }
 
 /// Prints a line for the trails that would be in one file: the orders of their calls, as `audit` does.

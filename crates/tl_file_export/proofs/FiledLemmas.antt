@@ -11,11 +11,11 @@ use Rattle.tl_file_export.specs.declared.splitting.Ending.{Ending}
 
 -- ---- what is in them
 
-trails_begun : (t : TrailValue) (fs : List (List TrailValue)) → trails_of (begun t fs) ≡ trails_of fs ++ t ∷ []
+pub trails_begun : (t : TrailValue) (fs : List (List TrailValue)) → trails_of (begun t fs) ≡ trails_of fs ++ t ∷ []
 trails_begun t [] = refl
 trails_begun t (ts ∷ fs) = ap (λ xs. ts ++ xs) (trails_begun t fs) ∙ sym (append_assoc ts (trails_of fs) (t ∷ []))
 
-trails_more : (t : TrailValue) (fs : List (List TrailValue)) → trails_of (with_more t fs) ≡ trails_of fs ++ t ∷ []
+pub trails_more : (t : TrailValue) (fs : List (List TrailValue)) → trails_of (with_more t fs) ≡ trails_of fs ++ t ∷ []
 trails_more t [] = refl
 trails_more t (ts ∷ []) = append-nil (ts ++ t ∷ []) ∙ ap (λ xs. xs ++ t ∷ []) (sym (append-nil ts))
 trails_more t (ts ∷ us ∷ fs) = ap (λ xs. ts ++ xs) (trails_more t (us ∷ fs)) ∙ sym (append_assoc ts (trails_of (us ∷ fs)) (t ∷ []))

@@ -7,12 +7,13 @@ use Rattle.tl_store.specs.Faults.{numbers_of as store_numbers_of}
 use Rattle.tl_store_file.specs.declared.fault.FileFault.TheVariants as file
 use Rattle.tl_store_file.specs.Faults.{numbers_of as file_numbers_of}
 use Rattle.tl_file_journal.specs.declared.refusal.StoreRefusal.{StoreRefusal}
-use Rattle.tl_file_journal.specs.declared.refusal.StoreRefusal.TheVariants.{NoTree, HasTree, File, Store}
+use Rattle.tl_file_journal.specs.declared.refusal.StoreRefusal.TheVariants.{NoTree, HasTree, StrayLog, File, Store}
 
 -- the refusal's number, followed by its operand
 abbrev pub numbers_of : StoreRefusal → List ℕ
 numbers_of NoTree = 1008 ∷ []
 numbers_of HasTree = 1009 ∷ []
+numbers_of StrayLog = 1019 ∷ []
 numbers_of (File fault) = file_numbers_of fault
 numbers_of (Store fault) = store_numbers_of fault
 

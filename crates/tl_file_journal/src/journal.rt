@@ -1,22 +1,45 @@
 // The journal of a store in a file.
 
-ghost use Rattle.std.specs.Prelude.{◌≡◌};
+ghost use Rattle.std.specs.Prelude.{◌≡◌, false};
 ghost use Rattle.tl_file_journal.specs.Copying.{refusal_of};
 
-use crate::comparing::{Comparer, Shared};
+use crate::comparing::{Closing, Comparer, Shared};
+use crate::volumes::{begin_next, copy_closed};
 use sqlite_std_file::File;
 use sqlite_store::FileStore;
 use sqlite_trees::store::Store;
 use std::alloc::Global;
-use std::sync::{Arc, Wait};
-use tl_file_snapshot::{SnapshotFault, write_snapshot};
+use std::mem;
+use std::sync::{Arc, Mutex, Wait};
+use tl_file_snapshot::{SnapshotFault, check_name, write_snapshot};
 use tl_generations::Legacy;
 use tl_journal::{JournalParts, LedgerJournal};
+use tl_ledger::Ledger;
 use tl_procedures::Procedures;
-use tl_server::{Claim, CopyRefusal, Journal, NoJournal, Unstored};
+use tl_server::{Claim, CopyRefusal, Journal, NoJournal, Unstored, VolumeRefusal};
 use tl_store::StoreFault;
 use tl_store_commands::end_store;
+use tl_volume_files::Volumes;
 use tl_workers::Engine;
+
+/// Where a store is written now.
+#[derive(Drop)]
+pub(crate) struct Live {
+    // The path of its file, or of its live volume's.
+    pub(crate) path: String,
+    // How many epochs the volumes before it have.
+    pub(crate) number: u64,
+    // Whether it was said that no new volume can be begun.
+    pub(crate) is_told: bool,
+}
+
+/// How a store goes on in new volumes.
+#[derive(Drop)]
+pub(crate) struct Turning {
+    pub(crate) volumes: Arc<Volumes>,
+    // How many calls a volume takes.
+    pub(crate) calls: u64,
+}
 
 /// The journal of a store in a file. As a type of its own it hides the types of the file: what serves is proved without them.
 #[derive(Drop)]
@@ -24,9 +47,11 @@ pub struct FileJournal {
     pub(crate) shared: Arc<Shared>,
     // How many epochs the store had when it was opened.
     pub(crate) epochs: u64,
-    // Where the files are, the path of the store's, and the folder of the copies.
+    // Where the files are, the store's, and the folder of the copies.
     pub(crate) files: HostRuntime,
-    pub(crate) path: String,
+    pub(crate) live: Mutex<Live>,
+    // `None` of a store in one file.
+    pub(crate) turning: Option<Turning>,
     pub(crate) copies: Option<String>,
 }
 
@@ -46,7 +71,7 @@ fn refusal_of(fault: SnapshotFault) -> CopyRefusal
 /// A journal that can be ended.
 pub trait End {
     /// Who compares what is stored with what is run from now on. `None` if nothing is stored.
-    fn comparer(&self) -> Option<Comparer>;
+    fn comparer(&self, rt: &impl Wait) -> Option<Comparer>;
 
     /// Stores what is left, and takes it into the file, once who compares it is gone. 1014 if the store wasn't what was run, or doesn't have then what the
     /// last engine left, where that has closed.
@@ -54,7 +79,7 @@ pub trait End {
 }
 
 impl End for NoJournal {
-    fn comparer(&self) -> Option<Comparer> {
+    fn comparer(&self, _rt: &impl Wait) -> Option<Comparer> {
         None
     }
 
@@ -112,10 +137,65 @@ impl Journal for FileJournal {
         self.shared.ledger.settle(rt, alloc)
     }
 
-    fn copy(&self, rt: &impl Wait, _alloc: Global, name: &str) -> Result<(), CopyRefusal> {
+    fn volume(&self, rt: &impl Wait) -> Option<u64> {
+        if self.turning.is_none() {
+            return None;
+        }
+        Some(self.live.lock(rt).number)
+    }
+
+    fn is_full(&self, rt: &impl Wait) -> bool {
+        match &self.turning {
+            Some(turning) => self.shared.ledger.calls(rt) >= turning.calls,
+            None => false,
+        }
+    }
+
+    fn carry_over(
+        &self,
+        rt: &impl Wait,
+        alloc: Global,
+        left: &Legacy,
+    ) -> Result<u64, VolumeRefusal> {
+        let Some(turning) = &self.turning else {
+            return Err(VolumeRefusal::NoVolumes);
+        };
+        if self.settle(rt, alloc).is_err() {
+            return Err(VolumeRefusal::Broken);
+        }
+        let mut live = self.live.lock(rt);
+        let turned = self.turn(rt, &turning.volumes, &mut *live, left);
+        if let Err(refusal) = turned {
+            if !live.is_told {
+                live.is_told = true;
+                let _shown = eprintln!(&self.files; "treedb: {} goes on: {refusal}", live.path);
+            }
+        }
+        turned
+    }
+
+    fn may_copy(&self, name: &str) -> Result<(), CopyRefusal> {
+        match &self.copies {
+            Some(folder) => { check_name(&self.files, folder.as_str(), name).map_err(refusal_of) }
+            None => Err(CopyRefusal::NoCopies),
+        }
+    }
+
+    fn copy(
+        &self,
+        rt: &impl Wait,
+        _alloc: Global,
+        name: &str,
+        closed: Option<u64>,
+    ) -> Result<(), CopyRefusal> {
         let Some(folder) = &self.copies else {
             return Err(CopyRefusal::NoCopies);
         };
+        if let (Some(number), Some(turning)) = (closed, &self.turning) {
+            let (files, volumes) = (&self.files, &turning.volumes);
+            return copy_closed(files, volumes, number, folder.as_str(), name).map_err(refusal_of);
+        }
+        let live = self.live.lock(rt);
         let Some(ledger) = self.shared.ledger.borrow(rt) else {
             return Err(CopyRefusal::Broken);
         };
@@ -123,7 +203,7 @@ impl Journal for FileJournal {
         let written = write_snapshot(
             &self.files,
             &mut ledger,
-            self.path.as_str(),
+            live.path.as_str(),
             folder.as_str(),
             name,
         );
@@ -132,19 +212,89 @@ impl Journal for FileJournal {
     }
 }
 
-impl End for FileJournal {
-    fn comparer(&self) -> Option<Comparer> {
-        match Arc::try_clone(&self.shared) {
-            Ok(shared) => Some(Comparer::new(shared, self.epochs)),
-            Err(_) => None,
+impl FileJournal {
+    // Goes on in the volume after the live one, once all that came is stored. The number of the live volume.
+    fn turn(
+        &self,
+        rt: &impl Wait,
+        volumes: &Volumes,
+        live: &mut Live,
+        left: &Legacy,
+    ) -> Result<u64, VolumeRefusal> {
+        let Some(ledger) = self.shared.ledger.borrow(rt) else {
+            return Err(VolumeRefusal::Broken);
+        };
+        let mut last = ledger;
+        if last.marks.calls == 0 {
+            self.shared.ledger.give_back(rt, last);
+            return Ok(live.number);
         }
+        if self.shared.is_closing(rt) {
+            self.shared.ledger.give_back(rt, last);
+            return Err(VolumeRefusal::Unwritten);
+        }
+        let number = live.number.saturating_add(last.marks.seals);
+        let (files, path) = (&self.files, live.path.as_str());
+        let (tree, procedures) = (left.tree(), left.procedures());
+        match begin_next(files, volumes, &mut last, path, number, tree, procedures) {
+            Ok((path, next)) => self.go_on(rt, live, last, path, number, next),
+            Err(refusal) => {
+                if refusal == VolumeRefusal::OtherLeft {
+                    self.shared.differ(rt, StoreFault::Other);
+                }
+                self.shared.ledger.give_back(rt, last);
+                Err(refusal)
+            }
+        }
+    }
+
+    // Goes on in the next volume, of that path and number, which was begun with what the last one left.
+    fn go_on(
+        &self,
+        rt: &impl Wait,
+        live: &mut Live,
+        last: Ledger<FileStore<File>>,
+        path: String,
+        number: u64,
+        next: Ledger<FileStore<File>>,
+    ) -> Result<u64, VolumeRefusal>
+        requires { next.is_shut ≡ false }
+    {
+        if self.shared.ledger.turn_over(rt, next).is_err() {
+            // A start would take up the next one, so nothing more may be stored in the last.
+            let mut last = last;
+            last.is_shut = true;
+            self.shared.ledger.give_back(rt, last);
+            return Err(VolumeRefusal::Broken);
+        }
+        self.shared.close(rt, Closing::new(live.number, last));
+        live.path = path;
+        live.number = number;
+        live.is_told = false;
+        Ok(number)
+    }
+}
+
+impl End for FileJournal {
+    fn comparer(&self, rt: &impl Wait) -> Option<Comparer> {
+        let volumes = match &self.turning {
+            Some(turning) => Some(Arc::try_clone(&turning.volumes).ok()?),
+            None => None,
+        };
+        let shared = Arc::try_clone(&self.shared).ok()?;
+        let live = self.live.lock(rt).number;
+        Some(Comparer::new(shared, self.files, volumes, live, self.epochs))
     }
 
     fn end(self, rt: &impl Wait, alloc: Global, left: Option<&Legacy>) -> Result<(), StoreFault> {
         let Some(shared) = Arc::into_inner(self.shared) else {
             return Err(StoreFault::Other);
         };
-        let Shared { ledger, difference } = shared;
+        let Shared {
+            ledger,
+            closing: _,
+            difference,
+        } = shared;
         match difference.into_inner() {
             Some(fault) => Err(fault),
             None => end_ledger(rt, alloc, ledger, left),

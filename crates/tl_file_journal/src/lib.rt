@@ -5,8 +5,9 @@ mod comparing;
 mod journal;
 mod opening;
 mod refusal;
+mod volumes;
 
 pub use comparing::{Comparer, Difference};
 pub use journal::{End, FileJournal};
-pub use opening::{Opening, Stored, open_stored};
+pub use opening::{Opening, StoreOptions, Stored, open_stored};
 pub use refusal::StoreRefusal;

@@ -22,6 +22,9 @@ pub enum StoreRefusal {
     /// 1009: there is a store, which has a tree, and another tree is named.
     #[error("the store has a tree: leave out --tree")]
     HasTree,
+    /// 1019: a log lies beside a closed volume, whose own was taken into it.
+    #[error("a log lies beside a closed volume, which has none")]
+    StrayLog,
     #[error("{0}")]
     File(FileFault),
     #[error("{0}")]
@@ -37,6 +40,7 @@ impl StoreRefusal {
         match self {
             StoreRefusal::NoTree => numbers.push(1008),
             StoreRefusal::HasTree => numbers.push(1009),
+            StoreRefusal::StrayLog => numbers.push(1019),
             StoreRefusal::File(fault) => {
                 // There is room: a file's fault has two numbers at most.
                 let _added = numbers.try_extend_from_slice(fault.numbers().as_slice());

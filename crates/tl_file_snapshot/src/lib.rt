@@ -8,4 +8,4 @@ mod writing;
 
 pub use fault::SnapshotFault;
 pub use name::{MAX_STEM, is_snapshot_name};
-pub use writing::write_snapshot;
+pub use writing::{check_name, write_copy, write_snapshot};

@@ -1,12 +1,17 @@
 -- How much is stored.
-use Rattle.std.specs.Prelude.{◌≤◌}
+use Rattle.std.specs.Prelude.{◌≡◌, ◌<◌, ◌≤◌, ◌⊎◌}
 use Rattle.tl_ledger.specs.declared.committing.Marks.{Marks}
+use Rattle.tl_journal.specs.declared.desk.Extent.{Extent}
 
 -- the first has at least as many rows of each table as the second
-pub record Covers (stored wanted : Marks) : Type 0 where
+pub record HasRows (stored wanted : Marks) : Type 0 where
   pub nodes : wanted.nodes ≤ stored.nodes
   pub procedures : wanted.procedures ≤ stored.procedures
   pub calls : wanted.calls ≤ stored.calls
   pub turns : wanted.turns ≤ stored.turns
   pub replies : wanted.replies ≤ stored.replies
   pub seals : wanted.seals ≤ stored.seals
+
+-- What is wanted is stored: it is of a volume before, all of which is stored, or the rows of its volume are.
+abbrev pub Covers : Extent → Extent → Type 0
+Covers stored wanted = (wanted.before < stored.before) ⊎ ((wanted.before ≡ stored.before) × HasRows stored.rows wanted.rows)

@@ -2,15 +2,22 @@
 
 ghost use Rattle.std.specs.Prelude.{◌≡◌, ◌≤◌, ◌↔◌, ◌⊎◌, IsTrue, true, false, Some, None, IsSome, option_map};
 ghost use Rattle.std.specs.Option.{ForSome};
-ghost use Rattle.tl_journal.specs.Desks.{Covers};
+ghost use Rattle.tl_journal.specs.Desks.{HasRows, Covers};
 
 use sqlite_trees::error::StoreError;
 use sqlite_trees::store::Store;
 use tl_ledger::{Ledger, Marks};
 
+/// How many rows of the volume that has so many epochs before it.
+#[derive(Clone, Copy, Debug, PartialEq, Eq)]
+pub(crate) struct Extent {
+    pub(crate) before: u64,
+    pub(crate) rows: Marks,
+}
+
 /// Whether the first has at least as many rows of each table as the second.
-fn covers(stored: &Marks, wanted: &Marks) -> bool
-    ensures { IsTrue result ↔ Covers stored.now wanted.now }
+fn has_rows(stored: &Marks, wanted: &Marks) -> bool
+    ensures { IsTrue result ↔ HasRows stored.now wanted.now }
 {
     stored.nodes >= wanted.nodes
         && stored.procedures >= wanted.procedures
@@ -18,6 +25,14 @@ fn covers(stored: &Marks, wanted: &Marks) -> bool
         && stored.turns >= wanted.turns
         && stored.replies >= wanted.replies
         && stored.seals >= wanted.seals
+}
+
+/// Whether what is wanted is stored. Who has gone over to the next volume has stored all of the one before.
+fn covers(stored: &Extent, wanted: &Extent) -> bool
+    ensures { IsTrue result ↔ Covers stored.now wanted.now }
+{
+    wanted.before < stored.before
+        || wanted.before == stored.before && has_rows(&stored.rows, &wanted.rows)
 }
 
 /// A ledger that stores nothing more, and why.
@@ -32,22 +47,25 @@ pub(crate) struct Broken<S: Store> {
 pub(crate) struct Desk<S: Store> {
     // `None` while somebody stores what came, and after a failure.
     ledger: Option<Ledger<S>>,
-    // How many rows were stored when the ledger was put here last.
-    stored: Marks,
+    // How many rows of its volume were stored when the ledger was put here last.
+    stored: Extent,
     broken: Option<Broken<S>>,
     ghost usable: { ForSome ledger (λ l. l.is_shut ≡ false) },
-    ghost counted: { ForSome ledger (λ l. Covers l.marks stored) },
+    ghost counted: { ForSome ledger (λ l. HasRows l.marks stored.rows) },
 }
 
 impl<S: Store + Drop> Desk<S> {
-    /// A desk with that ledger.
-    pub(crate) fn new(ledger: Ledger<S>) -> Desk<S>
+    /// A desk with that ledger, of the volume that has so many epochs before it.
+    pub(crate) fn new(before: u64, ledger: Ledger<S>) -> Desk<S>
         requires { ledger.is_shut ≡ false }
         ensures ledger { result.ledger ≡ Some ledger }
-        ensures stored { result.stored ≡ ledger.marks }
+        ensures stored { result.stored ≡ record { before = before; rows = ledger.marks } }
         ensures working { result.broken ≡ None }
     {
-        let stored = ledger.marks;
+        let stored = Extent {
+            before,
+            rows: ledger.marks,
+        };
         Desk {
             ledger: Some(ledger),
             stored,
@@ -56,7 +74,7 @@ impl<S: Store + Drop> Desk<S> {
     }
 
     /// Whether so many rows are stored.
-    pub(crate) fn has_stored(&self, wanted: &Marks) -> bool
+    pub(crate) fn has_stored(&self, wanted: &Extent) -> bool
         ensures { IsTrue result ↔ Covers self.now.stored wanted.now }
     {
         covers(&self.stored, wanted)
@@ -83,7 +101,8 @@ impl<S: Store + Drop> Desk<S> {
 
     /// Puts the ledger back after something was stored, or after a failure.
     pub(crate) fn put(&mut self, ledger: Ledger<S>, failure: Option<StoreError>)
-        ensures back { failure ≡ None → ledger.is_shut ≡ false → (self.new.ledger ≡ Some ledger) × (self.new.stored ≡ ledger.marks) }
+        ensures back { failure ≡ None → ledger.is_shut ≡ false
+            → (self.new.ledger ≡ Some ledger) × (self.new.stored ≡ record self.old.stored { rows = ledger.marks }) }
         ensures working { failure ≡ None → ledger.is_shut ≡ false → self.new.broken ≡ self.old.broken }
         ensures fault { IsSome failure → option_map (λ b. b.fault) self.new.broken ≡ failure }
         ensures failed { (IsSome failure ⊎ (ledger.is_shut ≡ true)) → (self.new.ledger ≡ self.old.ledger) × (self.new.stored ≡ self.old.stored) }
@@ -99,8 +118,22 @@ impl<S: Store + Drop> Desk<S> {
             });
             return;
         }
-        self.stored = ledger.marks;
+        self.stored.rows = ledger.marks;
         self.ledger = Some(ledger);
+    }
+
+    /// Puts the ledger of the next volume here, which has so many epochs before it, in the place of the last one, which was taken.
+    pub(crate) fn turn_over(&mut self, before: u64, next: Ledger<S>)
+        requires { next.is_shut ≡ false }
+        ensures next { self.new.ledger ≡ Some next }
+        ensures stored { self.new.stored ≡ record { before = before; rows = next.marks } }
+        ensures working { self.new.broken ≡ self.old.broken }
+    {
+        self.stored = Extent {
+            before,
+            rows: next.marks,
+        };
+        self.ledger = Some(next);
     }
 
     /// The ledger, and why it stores nothing more, if that is so.

@@ -1,19 +1,20 @@
 // Who stores what engines do: leader and followers.
 
-ghost use Rattle.std.specs.Prelude.{◌≡◌, ◌≢◌, false, IfSome};
+ghost use Rattle.std.specs.Prelude.{◌≡◌, ◌≢◌, false, IfSome, IfErr};
 ghost use Rattle.tl_server.specs.declared.journal.Claim.TheVariants.{NoStore};
 
-use crate::desk::Desk;
+use crate::desk::{Desk, Extent};
 use sqlite_trees::error::StoreError;
 use sqlite_trees::store::Store;
 use std::alloc::Global;
 use std::sync::{Condvar, Mutex, Wait};
+use tl_generations::Legacy;
 use tl_keys::KeyIndex;
-use tl_ledger::{Ledger, Marks, News};
+use tl_ledger::{Ledger, News};
 use tl_news::news_since;
 use tl_pending::Pending;
 use tl_procedures::Procedures;
-use tl_server::{Claim, CopyRefusal, Journal, Unstored};
+use tl_server::{Claim, CopyRefusal, Journal, Unstored, VolumeRefusal};
 use tl_tree::Record;
 use tl_workers::Engine;
 
@@ -46,10 +47,11 @@ pub struct JournalParts<S: Store> {
 }
 
 impl<S: Store + Drop> LedgerJournal<S> {
-    /// A journal over a ledger that isn't shut, before an engine that has no calls yet and so many procedures; all of those are stored. These
-    /// are the records of its tree, which are stored too, and so is what came of calls that had a key.
+    /// A journal over a ledger that isn't shut, whose volume has so many epochs before it, before an engine that has no calls yet and so many
+    /// procedures; all of those are stored. These are the records of its tree, which are stored too, and so is what came of calls that had a key.
     pub fn new(
         alloc: Global,
+        before: u64,
         ledger: Ledger<S>,
         records: Vec<Record>,
         procedures: usize,
@@ -58,8 +60,15 @@ impl<S: Store + Drop> LedgerJournal<S> {
         requires { ledger.is_shut ≡ false }
     {
         LedgerJournal {
-            pending: Mutex::new(Pending::new(alloc, ledger.marks, records, procedures, keys)),
-            desk: Mutex::new(Desk::new(ledger)),
+            pending: Mutex::new(Pending::new(
+                alloc,
+                before,
+                ledger.marks,
+                records,
+                procedures,
+                keys,
+            )),
+            desk: Mutex::new(Desk::new(before, ledger)),
             moved: Condvar::new(),
             released: Condvar::new(),
         }
@@ -120,14 +129,45 @@ impl<S: Store + Drop> LedgerJournal<S> {
         self.moved.notify_all();
     }
 
+    /// How many calls the live volume has once all that came is stored.
+    pub fn calls(&self, rt: &impl Wait) -> u64 {
+        match self.wanted(rt) {
+            Some(wanted) => wanted.rows.calls,
+            None => 0,
+        }
+    }
+
+    /// Goes on with the ledger of the next volume, which isn't shut and begins with what the last one left, while that one is borrowed. Who waits
+    /// until something is stored in the last one waits no longer: all of it is. Where something came that isn't stored nothing is changed, and the
+    /// ledger is given back.
+    pub fn turn_over(&self, rt: &impl Wait, next: Ledger<S>) -> Result<(), Ledger<S>>
+        requires { next.is_shut ≡ false }
+        ensures { IfErr result (λ l. l ≡ next) }
+    {
+        let mut pending = self.pending.lock(rt);
+        if !pending.turn_over(next.marks) {
+            return Err(next);
+        }
+        let before = pending.before();
+        drop(pending);
+        self.desk.lock(rt).turn_over(before, next);
+        self.moved.notify_all();
+        Ok(())
+    }
+
     // Takes over what came of the engine's table.
     fn read(&self, rt: &impl Wait, alloc: Global, engine: &Engine, is_over: bool) {
         take_over(rt, alloc, engine, is_over, &mut *self.pending.lock(rt));
     }
 
-    // How many rows there are once all that came up to now is stored. `None` if some of it was lost.
-    fn wanted(&self, rt: &impl Wait) -> Option<Marks> {
-        self.pending.lock(rt).wanted()
+    // How many rows the live volume has once all that came up to now is stored. `None` if some of it was lost.
+    fn wanted(&self, rt: &impl Wait) -> Option<Extent> {
+        let pending = self.pending.lock(rt);
+        let rows = pending.wanted()?;
+        Some(Extent {
+            before: pending.before(),
+            rows,
+        })
     }
 
     // Stores all that came up to now.
@@ -144,7 +184,7 @@ impl<S: Store + Drop> LedgerJournal<S> {
         rt: &impl Wait,
         alloc: Global,
         ledger: Ledger<S>,
-        wanted: &Marks,
+        wanted: &Extent,
     ) -> Result<(), Unstored> {
         let mut ledger = ledger;
         // Nothing is locked meanwhile.
@@ -277,8 +317,36 @@ impl<S: Store + Drop> Journal for LedgerJournal<S> {
         unreachable!()
     }
 
+    // Who knows the files begins volumes.
+    fn volume(&self, _rt: &impl Wait) -> Option<u64> {
+        None
+    }
+
+    fn is_full(&self, _rt: &impl Wait) -> bool {
+        false
+    }
+
+    fn carry_over(
+        &self,
+        _rt: &impl Wait,
+        _alloc: Global,
+        _left: &Legacy,
+    ) -> Result<u64, VolumeRefusal> {
+        Err(VolumeRefusal::NoVolumes)
+    }
+
     // Who knows the file copies it.
-    fn copy(&self, _rt: &impl Wait, _alloc: Global, _name: &str) -> Result<(), CopyRefusal> {
+    fn may_copy(&self, _name: &str) -> Result<(), CopyRefusal> {
+        Err(CopyRefusal::NoCopies)
+    }
+
+    fn copy(
+        &self,
+        _rt: &impl Wait,
+        _alloc: Global,
+        _name: &str,
+        _closed: Option<u64>,
+    ) -> Result<(), CopyRefusal> {
         Err(CopyRefusal::NoCopies)
     }
 }

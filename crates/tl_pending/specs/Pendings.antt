@@ -29,6 +29,10 @@ column n = pos (min n (2 ^ 63 - 1))
 abbrev pub more : ℕ → ℕ → ℕ
 more rows count = min (rows + count) (2 ^ 64 - 1)
 
+-- the sum of two numbers of epochs
+abbrev pub added : ℕ → ℕ → ℕ
+added before epochs = min (before + epochs) (2 ^ 64 - 1)
+
 -- ---- rows
 
 abbrev pub new_form : NewProcedure → List ℕ × List ℕ
@@ -99,13 +103,14 @@ HasSeal (Some now) rows b old new =
     (b.seals ≡ seal_after rows ∷ []) × Leads old.records.items now b.records × (new.records.items ≡ now) × (new.rows ≡ record rows { seals = more rows.seals 1 })
 
 -- The news of an epoch was added: rows were appended, which are its own and, if it is over, its seal. Its replies are remembered under the keys of their
--- calls. The epoch's number in the store is the number of seals before its own.
+-- calls. The epoch's number in the live volume is the number of seals before its own; among all volumes, that of all epochs before it.
 pub record Adds (came : EpochNews) (old new : Pending) : Type 0 where
   pub rows : Batch
   pub all : batch_of new.news ≡ joined (batch_of old.news) rows
   pub of : AreOfNews old.claims.items old.rows.seals came rows
   pub seal : HasSeal (option_map (λ v. v.items) came.records) (counted came old.rows) rows old new
-  pub learns : Learns old.claims.items (column old.rows.seals) came.answers.items old.index new.index
+  pub learns : Learns old.claims.items (column (added old.before old.rows.seals)) came.answers.items old.index new.index
+  pub before : new.before ≡ old.before
   pub claims : new.claims ≡ old.claims
   pub mark : new.mark ≡ old.mark
   pub lost : new.is_lost ≡ old.is_lost
@@ -148,6 +153,7 @@ pub record Grows (parents : List ℤ) (old new : Pending) : Type 0 where
   pub news : new.news ≡ record old.news { nodes = new.news.nodes }
   pub records : new.records.items ≡ old.records.items ++ replicate (length parents) (replicate field_count (pos 0))
   pub rows : new.rows ≡ record old.rows { nodes = more old.rows.nodes (length parents) }
+  pub before : new.before ≡ old.before
   pub claims : new.claims ≡ old.claims
   pub index : new.index ≡ old.index
   pub mark : new.mark ≡ old.mark

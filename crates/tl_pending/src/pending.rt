@@ -8,7 +8,7 @@ ghost use Rattle.tl_news.specs.News.{asked};
 ghost use Rattle.tl_pending.specs.Claims.{key_of, LearnsUnder, Learns, kept_of};
 ghost use Rattle.tl_rows.specs.Changes.{Leads};
 ghost use Rattle.tl_rows.specs.Rows.{named_form, procedure_form, turn_form, reply_form};
-ghost use Rattle.tl_pending.specs.Pendings.{column, more, counted, seal_after, new_form, admitted_in, admitted_at, admitted_from, turn_forms, answer_form, node_of, start, Appends, Adds, AddsAll, Replaces, Grows, IsEmpty};
+ghost use Rattle.tl_pending.specs.Pendings.{column, more, added, counted, seal_after, new_form, admitted_in, admitted_at, admitted_from, turn_forms, answer_form, node_of, start, Appends, Adds, AddsAll, Replaces, Grows, IsEmpty};
 
 use crate::claims;
 use crate::claims::{Claimed, key_of};
@@ -36,6 +36,19 @@ pub fn no_news(alloc: Global) -> News
         seals: Vec::new(alloc),
         records: Vec::new(alloc),
     }
+}
+
+// Whether there is no news.
+fn is_empty(news: &News) -> bool
+    ensures { result ≡ true → IsEmpty news.now }
+{
+    news.nodes.is_empty()
+        && news.procedures.is_empty()
+        && news.calls.is_empty()
+        && news.turns.is_empty()
+        && news.replies.is_empty()
+        && news.seals.is_empty()
+        && news.records.is_empty()
 }
 
 // So many rows more. No store has as many rows as there are numbers.
@@ -253,7 +266,9 @@ fn push_zeros(records: &mut Vec<Record>, count: usize) -> Result<(), AllocError>
 pub struct Pending {
     mark: Mark,
     news: News,
-    // How many rows there are once all of this is stored. An epoch's number in the store is how many seals there are before its own.
+    // How many epochs the volumes before the live one have.
+    before: u64,
+    // How many rows the live volume has once all of this is stored. An epoch's number there is how many seals there are before its own.
     rows: Marks,
     // The records at the last seal, these news among them.
     records: Vec<Record>,
@@ -267,10 +282,11 @@ pub struct Pending {
 }
 
 impl Pending {
-    /// Nothing, where so many rows are stored, these are the records at the last seal, the engine's table begins with so many procedures, and this came
-    /// of calls that had a key.
+    /// Nothing, where volumes with so many epochs stand before the live one, so many rows are stored in that, these are the records at the last seal,
+    /// the engine's table begins with so many procedures, and this came of calls that had a key.
     pub fn new(
         alloc: Global,
+        before: u64,
         rows: Marks,
         records: Vec<Record>,
         procedures: usize,
@@ -278,11 +294,12 @@ impl Pending {
     ) -> Pending
         ensures news { IsEmpty result.news }
         ensures claims { result.claims.items ≡ [] }
-        ensures others { result ≡ record { mark = start procedures; news = result.news; rows = rows; records = records; claims = result.claims; index = index; is_lost = false } }
+        ensures others { result ≡ record { mark = start procedures; news = result.news; before = before; rows = rows; records = records; claims = result.claims; index = index; is_lost = false } }
     {
         Pending {
             mark: Mark::start(procedures),
             news: no_news(alloc),
+            before,
             rows,
             records,
             claims: Vec::new(alloc),
@@ -298,7 +315,14 @@ impl Pending {
         self.mark
     }
 
-    /// How many rows there are once all that came is stored. `None` if some of it was lost.
+    /// How many epochs the volumes before the live one have.
+    pub fn before(&self) -> u64
+        ensures { result ≡ self.now.before }
+    {
+        self.before
+    }
+
+    /// How many rows the live volume has once all that came is stored. `None` if some of it was lost.
     pub fn wanted(&self) -> Option<Marks>
         ensures { result ≡ (if self.now.is_lost then None else Some self.now.rows) }
     {
@@ -322,6 +346,21 @@ impl Pending {
             return None;
         }
         Some(mem::replace(&mut self.news, no_news(alloc)))
+    }
+
+    /// What comes from now on is of the next volume, which has so many rows by now. False if something came that isn't stored, or was lost; then
+    /// nothing is changed.
+    pub fn turn_over(&mut self, rows: Marks) -> bool
+        ensures turned { result ≡ true → IsEmpty self.old.news × (self.old.is_lost ≡ false)
+            × (self.new ≡ record self.old { before = added self.old.before self.old.rows.seals; rows = rows }) }
+        ensures same { result ≡ false → self.new ≡ self.old }
+    {
+        if self.is_lost || !is_empty(&self.news) {
+            return false;
+        }
+        self.before = self.before.saturating_add(self.rows.seals);
+        self.rows = rows;
+        true
     }
 
     /// Whether a session has claimed the key.
@@ -378,11 +417,13 @@ impl Pending {
         Ok(())
     }
 
-    // What came of one epoch. Its number in the store is how many seals there are before its own.
+    // What came of one epoch. Its number in the volume is how many seals there are before its own.
     fn add_epoch(&mut self, alloc: Global, came: EpochNews) -> Result<(), AllocError>
         ensures { OnOk result (Adds came self.old self.new) }
     {
         let epoch = column(self.rows.seals);
+        // Among all volumes.
+        let number = column(self.before.saturating_add(self.rows.seals));
         // Counted before what came is taken apart. If memory is refused below, nobody reads the counts any more.
         self.rows = counted(&self.rows, &came);
         let EpochNews {
@@ -395,7 +436,7 @@ impl Pending {
             records,
         } = came;
         let claims = self.claims.as_slice();
-        learn(alloc, &mut self.index, claims, epoch, answers.as_slice())?;
+        learn(alloc, &mut self.index, claims, number, answers.as_slice())?;
         let news = &mut self.news;
         push_procedures(alloc, &mut news.procedures, procedures.as_slice())?;
         push_calls(
@@ -447,6 +488,7 @@ impl Pending {
         let Pending {
             mark: _,
             news,
+            before: _,
             rows: _,
             records: _,
             claims: _,

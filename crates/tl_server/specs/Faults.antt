@@ -13,6 +13,8 @@ use Rattle.tl_server.specs.declared.fault.ServeFault.{ServeFault}
 use Rattle.tl_server.specs.declared.fault.ServeFault.TheVariants as serve
 use Rattle.tl_server.specs.declared.fault.ListenFault.{ListenFault}
 use Rattle.tl_server.specs.declared.fault.ListenFault.TheVariants as listen
+use Rattle.tl_server.specs.declared.volume.VolumeRefusal.{VolumeRefusal}
+use Rattle.tl_server.specs.declared.volume.VolumeRefusal.TheVariants as volume
 use Rattle.tl_server.specs.declared.copying.CopyRefusal.{CopyRefusal}
 use Rattle.tl_server.specs.declared.copying.CopyRefusal.TheVariants as copy
 use Rattle.tl_server.specs.declared.fault.LineFault.{LineFault}
@@ -65,7 +67,31 @@ copy_number copy.OtherCounts = 1014
 copy_number copy.Broken = 1011
 copy_number copy.Memory = 1090
 
+-- why there is no copy, where there is no new volume
+abbrev pub uncopied : VolumeRefusal → CopyRefusal
+uncopied volume.NoVolumes = copy.NoCopies
+uncopied volume.Unwritten = copy.Unwritten
+uncopied volume.OtherLeft = copy.OtherCounts
+uncopied volume.Broken = copy.Broken
+uncopied volume.Memory = copy.Memory
+
+-- the number of the reason why there is no new volume
+abbrev pub volume_number : VolumeRefusal → ℕ
+volume_number volume.NoVolumes = 901
+volume_number volume.Unwritten = 32
+volume_number volume.OtherLeft = 1014
+volume_number volume.Broken = 1011
+volume_number volume.Memory = 1090
+
 -- the program's exit status then
+abbrev pub volume_status : VolumeRefusal → ℕ
+volume_status volume.NoVolumes = 1
+volume_status volume.Unwritten = 3
+volume_status volume.OtherLeft = 1
+volume_status volume.Broken = 3
+volume_status volume.Memory = 4
+
+-- the program's exit status where there is no copy
 abbrev pub copy_status : CopyRefusal → ℕ
 copy_status copy.NoCopies = 1
 copy_status copy.BadName = 1

@@ -38,4 +38,5 @@ abbrev pub status_text : Status → List ℕ
 status_text s =
     codes "{\"epoch\":" ++ decimal s.epoch ++ codes ",\"generation\":" ++ decimal s.generation ++ codes ",\"calls\":" ++ decimal s.calls
     ++ codes ",\"connections\":" ++ decimal s.connections ++ codes ",\"nodes\":" ++ decimal s.nodes ++ codes ",\"procedures\":" ++ decimal s.procedures
-    ++ codes ",\"refusals\":" ++ decimal s.refusals ++ codes ",\"places\":" ++ decimal s.places ++ codes ",\"browsers\":" ++ decimal s.browsers ++ codes "}"
+    ++ codes ",\"refusals\":" ++ decimal s.refusals ++ codes ",\"places\":" ++ decimal s.places ++ codes ",\"browsers\":" ++ decimal s.browsers
+    ++ codes ",\"volume\":" ++ decimal s.volume ++ codes "}"

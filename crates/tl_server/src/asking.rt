@@ -2,7 +2,8 @@
 
 use crate::copying::CopyRefusal;
 use crate::stream::{Address, Stream};
-use crate::wish::{COPY, COPY_END, STATUS, STATUS_END, STOP};
+use crate::volume::VolumeRefusal;
+use crate::wish::{COPY, COPY_END, STATUS, STATUS_END, STOP, VOLUME, VOLUME_END};
 use std::alloc::Global;
 use std::io;
 use std::io::{Read, Write};
@@ -11,7 +12,7 @@ use std::net::{Net, TcpListener, TcpStream};
 /// The answer to the request to stop.
 pub(crate) const STOPPING: &[u8] = b"{\"stopping\":true}\n";
 
-// How the answer to the request for the status begins, and how many bytes it has at most: nine names, and nine numbers of at most 20 digits.
+// How the answer to the request for the status begins, and how many bytes it has at most: ten names, and ten numbers of at most 20 digits.
 const STATUS_BEGIN: &str = "{\"epoch\":";
 
 const MAX_STATUS: u64 = 512;
@@ -23,6 +24,11 @@ const MAX_ANSWER: u64 = 65_536;
 pub(crate) const COPIED: &str = "{\"snapshot\":\"";
 
 pub(crate) const COPIED_END: &str = "\"}\n";
+
+/// How the answer to the request for a new volume begins, up to its number, and how it ends.
+pub(crate) const TURNED: &str = "{\"volume\":";
+
+pub(crate) const TURNED_END: &str = "}\n";
 
 // How a refusal begins, and how it ends.
 const REFUSED: &str = "{\"error\":[";
@@ -88,10 +94,10 @@ pub fn ask_to_obey<R: Net<Listener = TcpListener, Stream = TcpStream>>(
     }
 }
 
-// Why the server made no copy, by its answer.
-fn refusal_in(line: &str) -> Option<CopyRefusal> {
+// The number of a refusal, by the server's answer.
+fn refusal_in(line: &str) -> Option<u64> {
     let number = line.strip_prefix(REFUSED)?.strip_suffix(REFUSED_END)?;
-    CopyRefusal::of_number(number.parse().ok()?)
+    number.parse().ok()
 }
 
 /// Asks the server with this control port or socket to copy what it stores into a file of that name, in the folder that it was given for copies. The
@@ -112,8 +118,35 @@ pub fn ask_for_copy<R: Net<Listener = TcpListener, Stream = TcpStream>>(
     if line.starts_with(COPIED) && line.ends_with(COPIED_END) {
         return Ok(Ok(()));
     }
-    match refusal_in(line.as_str()) {
+    match refusal_in(line.as_str()).and_then(CopyRefusal::of_number) {
         Some(refusal) => Ok(Err(refusal)),
         None => Err(not_understood()),
     }
+}
+
+/// Asks the server with this control port or socket to go on in a new volume of its store: the number of the live one. The server's refusal if it
+/// doesn't. An error if nobody is there, or another program.
+pub fn ask_for_volume<R: Net<Listener = TcpListener, Stream = TcpStream>>(
+    rt: &R,
+    alloc: Global,
+    control: Address<'_>,
+) -> io::Result<Result<u64, VolumeRefusal>> {
+    let stream = Stream::connect(rt, control)?;
+    let mut peer = &stream;
+    peer.write_all(VOLUME)?;
+    peer.write_all(VOLUME_END)?;
+    let line = io::read_to_string(alloc, peer.take(MAX_STATUS))?;
+    if let Some(number) = turned_to(line.as_str()) {
+        return Ok(Ok(number));
+    }
+    match refusal_in(line.as_str()).and_then(VolumeRefusal::of_number) {
+        Some(refusal) => Ok(Err(refusal)),
+        None => Err(not_understood()),
+    }
+}
+
+// The number of the live volume, by the server's answer.
+fn turned_to(line: &str) -> Option<u64> {
+    let number = line.strip_prefix(TURNED)?.strip_suffix(TURNED_END)?;
+    number.parse().ok()
 }

@@ -3,8 +3,8 @@
 ghost use Rattle.std.specs.Prelude.{◌≡◌, IfErr};
 ghost use Rattle.tl_server.specs.declared.fault.ListenFault.TheVariants.{NoPort};
 
-use crate::answer::put_error_line;
-use crate::asking::{COPIED, COPIED_END, STOPPING};
+use crate::answer::{put_error_line, put_number};
+use crate::asking::{COPIED, COPIED_END, STOPPING, TURNED, TURNED_END};
 use crate::copying::CopyRefusal;
 use crate::device::{Sink, write_all};
 use crate::entrance::{Entrance, Listener};
@@ -15,6 +15,7 @@ use crate::request::{LineRequest, is_barred, read_request};
 use crate::socket::SocketSink;
 use crate::status::{Reporter, Status, put_status_line};
 use crate::stream::{Address, Stream};
+use crate::volume::VolumeRefusal;
 use crate::wish::{Wish, wish_of};
 use std::alloc::Global;
 use std::net::{Net, TcpListener, TcpStream};
@@ -69,6 +70,23 @@ fn tell_copied(alloc: Global, stream: &Stream, name: &str, copied: Result<(), Co
             outbox.put(&mut sink, COPIED.as_bytes());
             outbox.put(&mut sink, name.as_bytes());
             outbox.put(&mut sink, COPIED_END.as_bytes());
+        }
+        Err(refusal) => put_error_line(&mut outbox, &mut sink, refusal.numbers().as_slice()),
+    }
+    outbox.flush(&mut sink);
+}
+
+// Answers which volume is live, or why there is no new one.
+fn tell_turned(alloc: Global, stream: &Stream, turned: Result<u64, VolumeRefusal>) {
+    let Ok(mut outbox) = Outbox::new(alloc) else {
+        return say(stream, NO_MEMORY);
+    };
+    let mut sink = SocketSink::new(stream);
+    match turned {
+        Ok(number) => {
+            outbox.put(&mut sink, TURNED.as_bytes());
+            put_number(&mut outbox, &mut sink, number);
+            outbox.put(&mut sink, TURNED_END.as_bytes());
         }
         Err(refusal) => put_error_line(&mut outbox, &mut sink, refusal.numbers().as_slice()),
     }
@@ -153,6 +171,7 @@ impl<'a> Control<'a> {
                 None => say(&stream, NO_REQUEST),
             },
             Wish::Request(line) => return !obey(rt, alloc, &stream, &line, reporter),
+            Wish::Volume => tell_turned(alloc, &stream, reporter.turn(rt, alloc)),
             Wish::Copy(name) => {
                 // A name that isn't UTF-8 is none that a copy has.
                 let name = str::from_utf8(&name).unwrap_or("");

@@ -1,5 +1,6 @@
 // Why a server writes no copy of what it stores.
 
+use crate::volume::VolumeRefusal;
 use arrayvec::ArrayVec;
 use thiserror::Error;
 
@@ -38,7 +39,20 @@ const REFUSALS: [CopyRefusal; 6] = [
 
 impl CopyRefusal {
     ghost use Rattle.std.specs.Prelude.{◌≡◌, [], ◌∷◌, IfSome};
-    ghost use Rattle.tl_server.specs.Faults.{copy_number, copy_status};
+    ghost use Rattle.tl_server.specs.Faults.{copy_number, copy_status, uncopied};
+
+    /// Why there is no copy where a store goes on in no new volume.
+    pub(crate) fn of_volume(refusal: VolumeRefusal) -> CopyRefusal
+        ensures { result ≡ uncopied refusal }
+    {
+        match refusal {
+            VolumeRefusal::NoVolumes => CopyRefusal::NoCopies,
+            VolumeRefusal::Unwritten => CopyRefusal::Unwritten,
+            VolumeRefusal::OtherLeft => CopyRefusal::OtherCounts,
+            VolumeRefusal::Broken => CopyRefusal::Broken,
+            VolumeRefusal::Memory => CopyRefusal::Memory,
+        }
+    }
 
     /// Its number.
     pub fn number(&self) -> u64

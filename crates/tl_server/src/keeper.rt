@@ -8,7 +8,7 @@ ghost use Rattle.tl_procedures.specs.declared.fault.ReplacingFault.TheVariants a
 ghost use Rattle.tl_server.specs.Served.{GrowthOutcome};
 
 use std::alloc::Global;
-use tl_generations::GrowthFault;
+use tl_generations::{GrowthFault, Legacy};
 use tl_procedures::{Procedures, ReplacingFault};
 use tl_workers::{Engine, Session};
 
@@ -27,6 +27,9 @@ pub trait Keeper {
     fn open(&mut self, alloc: Global) -> Option<Engine>
         ensures closed { IfSome result (λ _. has_closed self.new) }
         ensures seals { IfSome result (λ e. e.seals ≡ true) };
+
+    /// What the engine that was closed last left. `None` if memory is refused, or if the engine didn't close.
+    fn left(&mut self, alloc: Global) -> Option<&Legacy>;
 
     /// How many nodes the tree has on which it opened an engine last, or from which the first engine began.
     fn nodes(&self) -> u32;

@@ -35,9 +35,10 @@ mod status;
 mod stored_sink;
 mod stream;
 mod texts;
+mod volume;
 mod wish;
 
-pub use asking::{ask_for_copy, ask_status, ask_to_obey, ask_to_stop};
+pub use asking::{ask_for_copy, ask_for_volume, ask_status, ask_to_obey, ask_to_stop};
 pub use batch::BatchRequest;
 pub use control::Control;
 pub use copying::CopyRefusal;
@@ -59,3 +60,4 @@ pub use status::Status;
 pub use stored_sink::StoredSink;
 pub use stream::{Address, Stream};
 pub use texts::{NamedBounds, TextFault, Texts};
+pub use volume::VolumeRefusal;

@@ -20,11 +20,12 @@ use crate::request::LineRequest;
 use crate::seats::Seats;
 use crate::service::Service;
 use crate::socket::SocketSink;
-use crate::stage::{Pause, Place, Stage, knows_all};
+use crate::stage::{Pause, Place, Stage, knows_all, turn_over};
 use crate::status::{Reporter, Status, Tally};
 use crate::stored_sink::StoredSink;
 use crate::stream::Stream;
 use crate::texts::{NamedBounds, ReplaceFault, TextProcedures, Texts, read_procedures};
+use crate::volume::VolumeRefusal;
 use std::alloc::Global;
 use std::sync::{Arc, Mutex, RwLock, Wait};
 use std::thread::Threads;
@@ -327,6 +328,45 @@ impl<K: Keeper + Texts, J: Journal> Relay<K, J> {
     }
 }
 
+impl<K: Keeper + Texts, J: Journal> Relay<K, J> {
+    // Goes on in a new volume of what is stored, as soon as no line is at work: the next engine takes over. The numbers of the volume that was live until
+    // then, which is closed now, and of the live one; the same number twice if it goes on in the volume that it had.
+    fn begin_volume(&self, rt: &impl Wait, alloc: Global) -> Result<(u64, u64), VolumeRefusal> {
+        if self.journal.volume(rt).is_none() {
+            return Err(VolumeRefusal::NoVolumes);
+        }
+        let mut stage = self.stage.write(rt);
+        let mut keeper = self.keeper.lock(rt);
+        let Some(before) = self.journal.volume(rt) else {
+            return Err(VolumeRefusal::NoVolumes);
+        };
+        if stage.engine.is_some()
+            && !stage.close(rt, alloc, &self.seats, &mut *keeper, &self.journal)
+        {
+            return Err(VolumeRefusal::Memory);
+        }
+        let turned = turn_over(rt, alloc, &mut *keeper, &self.journal);
+        if stage.open(alloc, &mut *keeper, &self.crew) {
+            // Lines are answered again. The next hand-over waits for the keeper.
+            drop(stage);
+            keeper.keep(alloc);
+        }
+        Ok((before, turned?))
+    }
+
+    // Writes a copy of what is stored. Of a store in volumes it is the file of a volume that is closed for it, so that no line waits while it is copied; or,
+    // where the live one has no call, of that one.
+    fn write_copy(&self, rt: &impl Wait, alloc: Global, name: &str) -> Result<(), CopyRefusal> {
+        self.journal.may_copy(name)?;
+        let closed = match self.begin_volume(rt, alloc) {
+            Ok((before, live)) if before != live => Some(before),
+            Ok(_) | Err(VolumeRefusal::NoVolumes) => None,
+            Err(refusal) => return Err(CopyRefusal::of_volume(refusal)),
+        };
+        self.journal.copy(rt, alloc, name, closed)
+    }
+}
+
 // What came of a growth, unless memory was refused.
 fn known(grown: Result<u32, GrowthFault>) -> Option<Result<u32, GrowthFault>>
     ensures { IfSome result (λ r. (r ≡ grown) × (r ≢ Err growth.Memory)) }
@@ -407,6 +447,7 @@ impl<K: Keeper + Texts, J: Journal> Reporter for Relay<K, J> {
             refusals: self.tally.refusals(),
             places,
             browsers: self.tally.browsers(),
+            volume: self.journal.volume(rt).unwrap_or(0),
         })
     }
 
@@ -432,6 +473,11 @@ impl<K: Keeper + Texts, J: Journal> Reporter for Relay<K, J> {
     }
 
     fn copy(&self, rt: &impl Wait, alloc: Global, name: &str) -> Result<(), CopyRefusal> {
-        self.journal.copy(rt, alloc, name)
+        self.write_copy(rt, alloc, name)
+    }
+
+    fn turn(&self, rt: &impl Wait, alloc: Global) -> Result<u64, VolumeRefusal> {
+        let (_, live) = self.begin_volume(rt, alloc)?;
+        Ok(live)
     }
 }

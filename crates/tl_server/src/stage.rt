@@ -17,6 +17,7 @@ use crate::request::LineRequest;
 use crate::seats::Seats;
 use crate::service::act;
 use crate::texts::{Texts, register_text};
+use crate::volume::VolumeRefusal;
 use std::alloc::Global;
 use std::marker::Model;
 use std::mem;
@@ -227,6 +228,10 @@ impl Stage {
         keeper.close(engine, sessions);
         self.base = base;
         self.generation = self.generation.saturating_add(1);
+        if journal.is_full(rt) {
+            // Where the next volume can't be begun the journal says so, and goes on in the live one.
+            let _turned = turn_over(rt, alloc, keeper, journal);
+        }
         true
     }
 
@@ -262,6 +267,19 @@ impl Stage {
             Some(engine) => engine.look(rt, |table| table.core().procedures().len() as u64),
             None => 0,
         }
+    }
+}
+
+/// Goes on in a new volume of what is stored, which begins with what the engine that was closed last left. The number of the live volume.
+pub(crate) fn turn_over<K: Keeper, J: Journal>(
+    rt: &impl Wait,
+    alloc: Global,
+    keeper: &mut K,
+    journal: &J,
+) -> Result<u64, VolumeRefusal> {
+    match keeper.left(alloc) {
+        Some(left) => journal.carry_over(rt, alloc, left),
+        None => Err(VolumeRefusal::Memory),
     }
 }
 

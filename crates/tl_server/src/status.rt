@@ -16,6 +16,7 @@ use crate::outbox::Outbox;
 use crate::outcome::RequestOutcome;
 use crate::request::LineRequest;
 use crate::stream::Stream;
+use crate::volume::VolumeRefusal;
 use std::alloc::Global;
 use std::sync::Wait;
 use std::sync::atomic::{AtomicBool, AtomicU64, Ordering};
@@ -43,6 +44,8 @@ pub struct Status {
     pub places: u64,
     /// How many connections a browser opened since the start. Nothing of what they sent was done.
     pub browsers: u64,
+    /// The number of the live volume of its store: how many epochs the volumes before it have. 0 where the store is one file, or there is none.
+    pub volume: u64,
 }
 
 /// Who says how far a server is, copies what it stores, and does what an operator asks for.
@@ -61,8 +64,11 @@ pub trait Reporter {
         requires asked { IsAsked (line_view request.now) }
         requires shared { IsSync R.row };
 
-    /// Copies what is stored, as `Journal::copy` does.
+    /// Copies what is stored. Of a store in volumes it goes on in a new one first, and copies the one before.
     fn copy(&self, rt: &impl Wait, alloc: Global, name: &str) -> Result<(), CopyRefusal>;
+
+    /// Goes on in a new volume of what is stored. The number of the live volume.
+    fn turn(&self, rt: &impl Wait, alloc: Global) -> Result<u64, VolumeRefusal>;
 }
 
 /// An engine alone doesn't say, stores nothing, and has no operator.
@@ -84,6 +90,10 @@ impl Reporter for Engine {
 
     fn copy(&self, _rt: &impl Wait, _alloc: Global, _name: &str) -> Result<(), CopyRefusal> {
         Err(CopyRefusal::NoCopies)
+    }
+
+    fn turn(&self, _rt: &impl Wait, _alloc: Global) -> Result<u64, VolumeRefusal> {
+        Err(VolumeRefusal::NoVolumes)
     }
 }
 
@@ -203,6 +213,8 @@ pub(crate) fn put_status_line<K: Sink>(outbox: &mut Outbox, sink: &mut K, status
     put_number(outbox, sink, status.places);
     outbox.put(sink, b",\"browsers\":");
     put_number(outbox, sink, status.browsers);
+    outbox.put(sink, b",\"volume\":");
+    put_number(outbox, sink, status.volume);
     outbox.put(sink, b"}");
     outbox.put(sink, b"\n");
 }

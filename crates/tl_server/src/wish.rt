@@ -20,6 +20,11 @@ pub(crate) const COPY: &[u8] = b"snaps";
 
 pub(crate) const COPY_END: &[u8] = b"hot ";
 
+/// The request to go on in a new volume.
+pub(crate) const VOLUME: &[u8] = b"volum";
+
+pub(crate) const VOLUME_END: &[u8] = b"e\n";
+
 /// How many bytes of a copy's name are kept. No copy has so long a name.
 const MAX_NAME: usize = 128;
 
@@ -36,6 +41,8 @@ const LONGEST: u64 = 10;
 pub(crate) enum Wish {
     Stop,
     Status,
+    /// A new volume.
+    Volume,
     /// A copy of this name.
     Copy(ArrayVec<u8, MAX_NAME>),
     /// What this line asks for, as one of a client's connection.
@@ -135,6 +142,9 @@ pub(crate) fn wish_of<R: Clock>(
     }
     if head.as_slice() == STATUS && peer.comes(STATUS_END) {
         return Ok(Wish::Status);
+    }
+    if head.as_slice() == VOLUME && peer.comes(VOLUME_END) {
+        return Ok(Wish::Volume);
     }
     if head.as_slice() == COPY && peer.comes(COPY_END) {
         return Ok(match peer.name() {

@@ -1,5 +1,5 @@
 -- What is remembered of a store's calls.
-use Rattle.std.proofs.Common.{◌≡◌, ◌∙◌, ℕ, ℤ, List, [], ◌∷◌, map, take, drop, Some, option_map, string_bytes, sym, ap, subst}
+use Rattle.std.proofs.Common.{◌≡◌, ◌∙◌, inr, ◌+ℤ◌, ℕ, ℤ, pos, List, [], ◌∷◌, map, take, drop, Some, option_map, string_bytes, sym, ap, subst}
 use Rattle.std.specs.Prelude.{All, Contains}
 use Rattle.std.proofs.lemmas.List.Elements.{All-nil, All-cons, All-head, All-tail, All-take, All-drop, All-contains_itself}
 use Rattle.sqlite_value.specs.Order.{Row}
@@ -13,24 +13,25 @@ use Rattle.tl_keys.specs.declared.index.KeyIndex.{KeyIndex}
 use Rattle.tl_keys.specs.Kept.{KeptValue}
 use Rattle.tl_keys.specs.Keys.{AllUnder, Remembers}
 use Rattle.tl_keys.proofs.Remembering.{all_more}
-use Rattle.tl_store_commands.specs.Remembering.{IsReplyTo, IsStoredUnder}
+use Rattle.tl_store_commands.specs.Remembering.{IsReplyTo, IsKnown}
 
 -- one more call that had a key
-pub one_more : (c : Contents) (old new : KeyIndex) (call : CallRow) (reply : ReplyRow) (key : List ℕ) (values : List ℤ) (kept : KeptValue)
-    → IsReplyTo call reply → option_map string_bytes call.key ≡ Some key → Some values ≡ numbers_in (string_bytes reply.reply) → kept ≡ record { epoch = call.epoch; call = call.number; reply = values }
-    → Remembers old new key kept → Contains (c CALL) (call_columns call) → Contains (c REPLY) (reply_columns reply) → AllUnder (IsStoredUnder c) old → AllUnder (IsStoredUnder c) new
-one_more c old new call reply key values kept replies has_key numbers is now is_call is_reply all =
-    all_more (IsStoredUnder c) old new key kept all (record {
+pub one_more : (start : KeyIndex) (before : ℕ) (c : Contents) (old new : KeyIndex) (call : CallRow) (reply : ReplyRow) (key : List ℕ) (epoch : ℤ) (values : List ℤ) (kept : KeptValue)
+    → IsReplyTo call reply → option_map string_bytes call.key ≡ Some key → Some values ≡ numbers_in (string_bytes reply.reply) → epoch ≡ pos before +ℤ call.epoch
+    → kept ≡ record { epoch = epoch; call = call.number; reply = values } → Remembers old new key kept → Contains (c CALL) (call_columns call) → Contains (c REPLY) (reply_columns reply)
+    → AllUnder (IsKnown start before c) old → AllUnder (IsKnown start before c) new
+one_more start before c old new call reply key epoch values kept replies has_key numbers counted is now is_call is_reply all =
+    all_more (IsKnown start before c) old new key kept all (inr (record {
       call = call;
       reply = reply;
       is_call = is_call;
       is_reply = is_reply;
       replies = replies;
       has_key = has_key;
-      epoch = sym (ap (λ k. k.epoch) is);
+      epoch = ap (λ k. k.epoch) is ∙ counted;
       number = sym (ap (λ k. k.call) is);
       values = sym numbers ∙ ap (λ k. Some k.reply) (sym is);
-    }) now
+    })) now
 
 of_map : {X Y : Type 0} (P : Y → Type 0) (f : X → Y) (xs : List X) → All P (map f xs) → All (λ x. P (f x)) xs
 of_map P f [] all = All-nil (λ x. P (f x))

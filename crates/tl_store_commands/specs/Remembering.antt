@@ -1,5 +1,5 @@
 -- What came of a store's calls that had a key.
-use Rattle.std.specs.Prelude.{◌≡◌, ◌≤◌, ◌<◌, ◌+◌, ◌-◌, ℕ, suc, pos, List, map, take, drop, length, Contains, Some, IsSome, option_map, is_some, string_bytes, slice_get}
+use Rattle.std.specs.Prelude.{◌≡◌, ◌≤◌, ◌<◌, ◌+◌, ◌-◌, ◌⊎◌, ◌+ℤ◌, ℕ, suc, pos, List, map, take, drop, length, Contains, Some, IsSome, option_map, is_some, string_bytes, slice_get}
 use Rattle.std.specs.List.{count_by}
 use Rattle.sqlite_value.specs.Order.{Row}
 use Rattle.tl_ledger.specs.declared.schema.TheConstants.{CALL, REPLY, SEAL}
@@ -19,17 +19,21 @@ use Rattle.tl_keys.specs.Keys.{Lasts, recall}
 abbrev pub IsReplyTo : CallRow → ReplyRow → Type 0
 IsReplyTo call reply = (reply.epoch ≡ call.epoch) × (reply.call ≡ call.number)
 
--- a call of the store had this key, and this is its epoch, its number there, and the reply that the store has of it
-pub record IsStoredUnder (c : Contents) (key : List ℕ) (kept : KeptValue) : Type 0 where
+-- A call of the store had this key; and this is its epoch, counted over all volumes, so many of which stand before this one, its number there, and the reply that the store has of it.
+pub record IsStoredUnder (before : ℕ) (c : Contents) (key : List ℕ) (kept : KeptValue) : Type 0 where
   pub call : CallRow
   pub reply : ReplyRow
   pub is_call : Contains (c CALL) (call_columns call)
   pub is_reply : Contains (c REPLY) (reply_columns reply)
   pub replies : IsReplyTo call reply
   pub has_key : option_map string_bytes call.key ≡ Some key
-  pub epoch : call.epoch ≡ kept.epoch
+  pub epoch : kept.epoch ≡ pos before +ℤ call.epoch
   pub number : call.number ≡ kept.call
   pub values : numbers_in (string_bytes reply.reply) ≡ Some kept.reply
+
+-- it was remembered under the key at the start, or a call of the store had the key
+abbrev pub IsKnown : KeyIndex → ℕ → Contents → List ℕ → KeptValue → Type 0
+IsKnown start before c key kept = (recall start key ≡ Some kept) ⊎ IsStoredUnder before c key kept
 
 -- ---- which of them are found
 

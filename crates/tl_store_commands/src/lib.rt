@@ -10,5 +10,5 @@ mod reopening;
 pub use beginning::{Beginning, make_store};
 pub use emptiness::has_no_rows;
 pub use ending::end_store;
-pub use remembering::remember_keys;
+pub use remembering::{RECALLED, remember_closed, remember_keys};
 pub use reopening::{Retaken, reopen_store};

@@ -1,8 +1,9 @@
 // What came of a store's calls that had a key.
 
-ghost use Rattle.std.specs.Prelude.{◌≡◌, ◌≤◌, ◌<◌, ◌+◌, ◌-◌, ◌↔◌, ℕ, suc, List, [], ◌∷◌, All, Contains, None, Some, false, length, map, take, drop, option_map, string_bytes, IsTrue, IfOk, IfSome, IfNone, OnOk};
+ghost use Rattle.std.specs.Prelude.{◌≡◌, ◌≤◌, ◌<◌, ◌+◌, ◌-◌, ◌+ℤ◌, ◌↔◌, ◌⊎◌, ℕ, suc, pos, List, [], ◌∷◌, All, Contains, None, Some, false, length, map, take, drop, option_map, string_bytes, IsTrue, IfOk, IfSome, IfNone, OnOk};
 ghost use Rattle.sqlite_trees.specs.View.{IsClean, KeepsSchema, doubt};
 ghost use Rattle.sqlite_value.specs.Order.{Row as Columns};
+ghost use Rattle.tl_keys.specs.declared.index.KeyIndex.{KeyIndex as Index};
 ghost use Rattle.tl_keys.specs.declared.index.TheConstants.{CAPACITY};
 ghost use Rattle.tl_ledger.specs.declared.rows.CallRow.{CallRow as Call};
 ghost use Rattle.tl_ledger.specs.declared.rows.ReplyRow.{ReplyRow as Reply};
@@ -11,20 +12,21 @@ ghost use Rattle.tl_ledger.specs.Contents.{Contents, Holds, AreTables, OnlyReads
 ghost use Rattle.tl_ledger.specs.News.{IsMarked, call_columns, reply_columns, seal_columns};
 ghost use Rattle.tl_ledger.specs.Rows.{rows_from};
 ghost use Rattle.tl_keys.specs.Keys.{recall, AllUnder, Lasts};
-ghost use Rattle.tl_store_commands.specs.Remembering.{IsReplyTo, IsStoredUnder, HasKey, keyed, HoldsOn, AreFound, Began, FindsMore, FindsLast};
+ghost use Rattle.tl_store_commands.specs.Remembering.{IsReplyTo, IsKnown, HasKey, keyed, HoldsOn, AreFound, Began, FindsMore, FindsLast};
 ghost use Rattle.tl_store_commands.specs.declared.remembering.TheConstants.{RECALLED as LATELY};
 
 use sqlite_trees::store::{Shape, Store};
 use std::alloc::Global;
 use tl_keys::{Kept, KeyIndex};
 use tl_ledger::{
-    CALL, CallRow, Ledger, Marks, REPLY, ReadEntry, ReplyRow, SEAL, SealRow, read_all, read_some,
+    CALL, CallRow, Ledger, Marks, REPLY, ReadEntry, ReplyRow, SEAL, SealRow, marks_of, read_all,
+    read_some,
 };
 use tl_rows::numbers_of_text;
 use tl_store::StoreFault;
 
-// Among how many of the last calls of a store those that had a key are looked for.
-const RECALLED: u64 = 1 << 20;
+/// Among how many of the last calls of a store those that had a key are looked for.
+pub const RECALLED: u64 = 1 << 20;
 
 // How many calls are open at once at most, so that a reply stands no more than so many places earlier than its call.
 const OPEN: usize = 64;
@@ -60,17 +62,25 @@ fn reply_to<'r>(replies: &'r [ReplyRow], place: usize, call: &CallRow) -> Option
     }
 }
 
+// The number among all volumes of an epoch of the one that has so many epochs before it. `None` if that is no column.
+fn number_among(before: u64, epoch: i64) -> Option<i64>
+    ensures { IfSome result (λ number. number ≡ pos before +ℤ epoch) }
+{
+    i64::try_from(before).ok()?.checked_add(epoch)
+}
+
 // Remembers what came of a call, if it had a key.
 #[tactic(auto, using(crate::proofs::RememberingLemmas::one_more))]
 fn remember_call(
     alloc: Global,
+    before: u64,
     index: &mut KeyIndex,
     call: &CallRow,
     reply: &ReplyRow,
 ) -> Result<(), StoreFault>
     requires { IsReplyTo call.now reply.now }
     ensures stored { OnOk result ((c : Contents) → Contains (c CALL) (call_columns call.now) → Contains (c REPLY) (reply_columns reply.now)
-        → AllUnder (IsStoredUnder c) index.old → AllUnder (IsStoredUnder c) index.new) }
+        → (start : Index) → AllUnder (IsKnown start before c) index.old → AllUnder (IsKnown start before c) index.new) }
     ensures held { OnOk result (HoldsOn (call.now ∷ []) index.old index.new) }
     ensures here { OnOk result ((key : List ℕ) → HasKey call.now key → Lasts index.new key CAPACITY) }
 {
@@ -80,7 +90,10 @@ fn remember_call(
     let Some(reply) = numbers_of_text(alloc, &reply.reply)? else {
         return Err(StoreFault::BadRow { table: REPLY });
     };
-    let kept = Kept::new(alloc, call.epoch, call.number, reply.as_slice())?;
+    let Some(epoch) = number_among(before, call.epoch) else {
+        return Err(StoreFault::BadRow { table: CALL });
+    };
+    let kept = Kept::new(alloc, epoch, call.number, reply.as_slice())?;
     index.remember(alloc, key.clone()?, kept)?;
     Ok(())
 }
@@ -88,19 +101,21 @@ fn remember_call(
 // Remembers what came of a call, if it had a key and one of these replies is its own, which probably stands behind that place.
 fn remember_one(
     alloc: Global,
+    before: u64,
     index: &mut KeyIndex,
     call: &CallRow,
     replies: &[ReplyRow],
     place: usize,
 ) -> Result<(), StoreFault>
     ensures stored { OnOk result ((c : Contents) → Contains (c CALL) (call_columns call.now)
-        → All (λ reply. Contains (c REPLY) (reply_columns reply)) replies.now → AllUnder (IsStoredUnder c) index.old → AllUnder (IsStoredUnder c) index.new) }
+        → All (λ reply. Contains (c REPLY) (reply_columns reply)) replies.now
+        → (start : Index) → AllUnder (IsKnown start before c) index.old → AllUnder (IsKnown start before c) index.new) }
     ensures held { OnOk result (HoldsOn (call.now ∷ []) index.old index.new) }
     ensures here { OnOk result ((key : List ℕ) (reply : Reply) → HasKey call.now key → Contains replies.now reply → IsReplyTo call.now reply
         → Lasts index.new key CAPACITY) }
 {
     match reply_to(replies, place, call) {
-        Some(reply) => remember_call(alloc, index, call, reply),
+        Some(reply) => remember_call(alloc, before, index, call, reply),
         None => Ok(()),
     }
 }
@@ -108,18 +123,20 @@ fn remember_one(
 // Remembers what came of these calls, as far as they had a key and one of these replies is theirs.
 fn remember_calls(
     alloc: Global,
+    before: u64,
     index: &mut KeyIndex,
     calls: &[CallRow],
     replies: &[ReplyRow],
 ) -> Result<(), StoreFault>
     ensures stored { OnOk result ((c : Contents) → All (λ call. Contains (c CALL) (call_columns call)) calls.now
-        → All (λ reply. Contains (c REPLY) (reply_columns reply)) replies.now → AllUnder (IsStoredUnder c) index.old → AllUnder (IsStoredUnder c) index.new) }
+        → All (λ reply. Contains (c REPLY) (reply_columns reply)) replies.now
+        → (start : Index) → AllUnder (IsKnown start before c) index.old → AllUnder (IsKnown start before c) index.new) }
     ensures held { OnOk result (HoldsOn calls.now index.old index.new) }
     ensures here { OnOk result (AreFound calls.now replies.now index.new) }
 {
     for number in 0..calls.len() {
         let place = number.saturating_sub(OPEN);
-        remember_one(alloc, index, &calls[number], replies, place)?;
+        remember_one(alloc, before, index, &calls[number], replies, place)?;
     }
     Ok(())
 }
@@ -202,12 +219,13 @@ fn remember_epoch<S: Store>(
     marks: &Marks,
     seals: &[SealRow],
     epoch: usize,
+    before: u64,
     index: &mut KeyIndex,
 ) -> Result<(), StoreFault>
     requires tables { IsClean (S.Store.view store.old) → AreTables (S.Store.view store.old) }
     requires epoch { epoch < length seals.now }
     ensures keys { OnOk result (IsClean (S.Store.view store.new) → (c : Contents) → Holds (S.Store.view store.old).trees c → IsMarked c marks.now
-        → AllUnder (IsStoredUnder c) index.old → AllUnder (IsStoredUnder c) index.new) }
+        → (start : Index) → AllUnder (IsKnown start before c) index.old → AllUnder (IsKnown start before c) index.new) }
     ensures found { OnOk result (IsClean (S.Store.view store.new) → (c : Contents) → Holds (S.Store.view store.old).trees c → IsMarked c marks.now
         → c SEALS ≡ map seal_columns seals.now → FindsMore c epoch index.old index.new) }
     ensures reads { OnOk result (IsClean (S.Store.view store.new) → OnlyReads (S.Store.view store.old) (S.Store.view store.new)) }
@@ -222,7 +240,7 @@ fn remember_epoch<S: Store>(
         return Ok(());
     }
     let replies: Vec<ReplyRow> = read_part(alloc, store, REPLY, first.replies, last.replies)?;
-    remember_calls(alloc, index, calls.as_slice(), replies.as_slice())
+    remember_calls(alloc, before, index, calls.as_slice(), replies.as_slice())
 }
 
 // The first epoch that has one of the last calls that are looked at, or whose seal has no such counts.
@@ -243,37 +261,66 @@ fn first_recalled(marks: &Marks, seals: &[SealRow]) -> usize
 // Remembers what came of the calls of sealed epochs that had a key, the earliest first.
 fn remember_epochs<S: Store>(
     alloc: Global,
+    before: u64,
     store: &mut S,
     marks: &Marks,
+    index: KeyIndex,
 ) -> Result<KeyIndex, StoreFault>
     requires { IsClean (S.Store.view store.old) → AreTables (S.Store.view store.old) }
-    ensures keys { IfOk result (λ index. IsClean (S.Store.view store.new) → (c : Contents) → Holds (S.Store.view store.old).trees c → IsMarked c marks.now
-        → AllUnder (IsStoredUnder c) index) }
-    ensures whole { IfOk result (λ index. IsClean (S.Store.view store.new) → (c : Contents) → Holds (S.Store.view store.old).trees c → IsMarked c marks.now
-        → FindsLast c index) }
+    ensures keys { IfOk result (λ now. IsClean (S.Store.view store.new) → (c : Contents) → Holds (S.Store.view store.old).trees c → IsMarked c marks.now
+        → (start : Index) → AllUnder (IsKnown start before c) index → AllUnder (IsKnown start before c) now) }
+    ensures whole { IfOk result (λ now. IsClean (S.Store.view store.new) → (c : Contents) → Holds (S.Store.view store.old).trees c → IsMarked c marks.now
+        → FindsLast c now) }
     ensures reads { OnOk result (IsClean (S.Store.view store.new) → OnlyReads (S.Store.view store.old) (S.Store.view store.new)) }
     ensures schema { KeepsSchema (S.Store.view store.old) (S.Store.view store.new) }
     ensures clean { doubt (S.Store.view store.old).is_clean ≤ doubt (S.Store.view store.new).is_clean }
 {
     let seals: Vec<SealRow> = read_all(alloc, store, SEAL)?;
-    let mut index = KeyIndex::new(alloc);
+    let mut now = index;
     let first = first_recalled(marks, seals.as_slice());
     for epoch in first..seals.len() {
-        remember_epoch(alloc, store, marks, seals.as_slice(), epoch, &mut index)?;
+        remember_epoch(
+            alloc,
+            store,
+            marks,
+            seals.as_slice(),
+            epoch,
+            before,
+            &mut now,
+        )?;
     }
-    Ok(index)
+    Ok(now)
+}
+
+/// What came of the calls of a closed volume that had a key, as far as these are among its last 1,048,576 calls, and fewer calls with keys came behind
+/// them than an index has places for, beside what was remembered before. It has so many epochs before it. Faults as of `remember_keys`.
+pub fn remember_closed<S: Store>(
+    alloc: Global,
+    before: u64,
+    store: &mut S,
+    index: KeyIndex,
+) -> Result<KeyIndex, StoreFault>
+    requires { IsClean (S.Store.view store.old) → AreTables (S.Store.view store.old) }
+    ensures keys { IfOk result (λ now. IsClean (S.Store.view store.new) → (c : Contents) → Holds (S.Store.view store.old).trees c
+        → AllUnder (IsKnown index before c) now) }
+    ensures whole { IfOk result (λ now. IsClean (S.Store.view store.new) → (c : Contents) → Holds (S.Store.view store.old).trees c → FindsLast c now) }
+{
+    let marks = marks_of(alloc, store)?;
+    remember_epochs(alloc, before, store, &marks, index)
 }
 
 /// The same ledger, over a store all of whose epochs are sealed, and what came of the calls that had a key, as far as these are among the last
-/// 1,048,576 calls, and fewer calls with keys came behind them than an index has places for. 1003 and the table if a row has another form; 1011 to
-/// 1013 if the disk fails; 1090 if memory is refused.
+/// 1,048,576 calls, and fewer calls with keys came behind them than an index has places for, beside what was remembered before. The store is a volume
+/// that has so many epochs before it. 1003 and the table if a row has another form; 1011 to 1013 if the disk fails; 1090 if memory is refused.
 pub fn remember_keys<S: Store + Drop>(
     alloc: Global,
+    before: u64,
     ledger: Ledger<S>,
+    index: KeyIndex,
 ) -> Result<(Ledger<S>, KeyIndex), StoreFault>
     requires { ledger.is_shut ≡ false }
     ensures keys { IfOk result (λ r. IsClean (S.Store.view r.0.store) → (c : Contents) → Holds (S.Store.view ledger.store).committed c → IsMarked c ledger.marks
-        → AllUnder (IsStoredUnder c) r.1) }
+        → AllUnder (IsKnown index before c) r.1) }
     ensures whole { IfOk result (λ r. IsClean (S.Store.view r.0.store) → (c : Contents) → Holds (S.Store.view ledger.store).committed c → IsMarked c ledger.marks
         → FindsLast c r.1) }
     ensures ledger { IfOk result (λ r. (r.0.is_shut ≡ false) × (r.0.marks ≡ ledger.marks)) }
@@ -282,6 +329,6 @@ pub fn remember_keys<S: Store + Drop>(
 {
     let marks = ledger.marks;
     let mut store = ledger.store;
-    let index = remember_epochs(alloc, &mut store, &marks)?;
-    Ok((Ledger::new(alloc, store, marks), index))
+    let now = remember_epochs(alloc, before, &mut store, &marks, index)?;
+    Ok((Ledger::new(alloc, store, marks), now))
 }

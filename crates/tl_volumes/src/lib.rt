@@ -4,5 +4,5 @@
 mod carrying;
 mod live;
 
-pub use carrying::{carry_over, opening_rows};
+pub use carrying::{CarryFault, carry_over, opening_rows};
 pub use live::live_volume;

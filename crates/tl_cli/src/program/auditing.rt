@@ -40,7 +40,7 @@ impl<'a, R: Files + Print + Eprint + AllocGlobal + Clone + Drop> Program<'a, R> 
     ) -> Result<String, Failure<'p>>
     where
         E: Epochs + Drop,
-        X: FnOnce(&str) -> Result<E, FileFault> + Drop,
+        X: Fn(&str) -> Result<E, FileFault> + Drop,
         requires { X.IsAlwaysCallable opens }
     {
         if let [path] = paths {
@@ -57,13 +57,29 @@ impl<'a, R: Files + Print + Eprint + AllocGlobal + Clone + Drop> Program<'a, R> 
                 return self.audit_alone(path, how.explains);
             }
         }
-        self.audit_all(paths, how)
+        self.audit_all(paths, how, &opens)
     }
 
     // The same of several files, or of a folder.
-    fn audit_all<'p>(&self, paths: &[&'p str], how: Auditing) -> Result<String, Failure<'p>> {
+    fn audit_all<'p, E, X>(
+        &self,
+        paths: &[&'p str],
+        how: Auditing,
+        opens: &X,
+    ) -> Result<String, Failure<'p>>
+    where
+        E: Epochs + Drop,
+        X: Fn(&str) -> Result<E, FileFault> + Drop,
+        requires { X.IsAlwaysCallable opens.now }
+    {
         let mut before = None;
         for path in paths {
+            let volumes = self.volumes_of(path)?;
+            if !volumes.is_empty() {
+                self.audit_volumes(path, volumes.as_slice(), opens)?;
+                before = None;
+                continue;
+            }
             before = if self.is_folder(path) {
                 self.audit_folder(path, before, how)?
             } else {

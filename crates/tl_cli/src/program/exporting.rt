@@ -46,11 +46,11 @@ impl<'a, R: Files + Print + Eprint + AllocGlobal + Clone + Drop> Program<'a, R> 
         }
     }
 
-    // Opens a store that is there. 31 if it isn't, [1003,9] if the file is no database; then what opening it says.
-    fn open_epochs<'p, E, X>(&self, path: &'p str, opens: X) -> Result<E, Failure<'p>>
+    /// Opens a store that is there. 31 if it isn't, [1003,9] if the file is no database; then what opening it says.
+    pub(crate) fn open_epochs<'p, E, X>(&self, path: &'p str, opens: X) -> Result<E, Failure<'p>>
     where
         E: Epochs + Drop,
-        X: FnOnce(&str) -> Result<E, FileFault> + Drop,
+        X: Fn(&str) -> Result<E, FileFault> + Drop,
         requires { X.IsAlwaysCallable opens }
     {
         let is_file = match fs::metadata(self.rt, path) {
@@ -75,10 +75,14 @@ impl<'a, R: Files + Print + Eprint + AllocGlobal + Clone + Drop> Program<'a, R> 
     ) -> Result<String, Failure<'p>>
     where
         E: Epochs + Drop,
-        X: FnOnce(&str) -> Result<E, FileFault> + Drop,
+        X: Fn(&str) -> Result<E, FileFault> + Drop,
         requires { X.IsAlwaysCallable opens }
     {
         self.check_folder(folder)?;
+        let volumes = self.volumes_of(store)?;
+        if !volumes.is_empty() {
+            return self.export_volumes(store, volumes.as_slice(), folder, &opens);
+        }
         let mut opened = self.open_epochs(store, opens)?;
         let alloc = self.rt.alloc();
         let Written { epochs, files } = match write_trails(self.rt, alloc, &mut opened, folder) {
@@ -96,7 +100,7 @@ impl<'a, R: Files + Print + Eprint + AllocGlobal + Clone + Drop> Program<'a, R> 
     ) -> Result<String, Failure<'p>>
     where
         E: Epochs + Drop,
-        X: FnOnce(&str) -> Result<E, FileFault> + Drop,
+        X: Fn(&str) -> Result<E, FileFault> + Drop,
         requires { X.IsAlwaysCallable opens }
     {
         let mut opened = self.open_epochs(store, opens)?;

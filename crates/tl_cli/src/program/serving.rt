@@ -20,7 +20,7 @@ use tl_json::RegisterFault;
 use tl_procedures::Procedures;
 use tl_server::{
     Address, Control, Journal, Keeper, LastingServer, ListenFault, NoJournal, Relay, Server, Texts,
-    ask_for_copy, ask_status, ask_to_obey, ask_to_stop,
+    ask_for_copy, ask_for_volume, ask_status, ask_to_obey, ask_to_stop,
 };
 use tl_verify::Proc;
 use tl_workers::{Engine, Session};
@@ -232,7 +232,7 @@ where
             known: _,
         } = opening;
         let mut archive = archive(trails, succession, self.nodes);
-        archive.compare_by(journal.comparer());
+        archive.compare_by(journal.comparer(self.rt));
         let epochs = u32::from(lasting.generation);
         let relay = Relay::new(self.rt.alloc(), engine, archive, journal, epochs);
         let relay = if lasting.is_frozen {
@@ -388,6 +388,16 @@ where
         match ask_for_copy(self.rt, alloc, control, name) {
             Ok(Ok(())) => Ok(format!(in alloc; "{{\"snapshot\":\"{name}\"}}\n")?),
             Ok(Err(refusal)) => Err(Failure::Uncopied(refusal)),
+            Err(reason) => Err(Failure::NoServer { control, reason }),
+        }
+    }
+
+    /// What `volume` prints, once the server goes on in a new volume.
+    pub(crate) fn turn<'p>(&self, control: Address<'p>) -> Result<String, Failure<'p>> {
+        let alloc = self.rt.alloc();
+        match ask_for_volume(self.rt, alloc, control) {
+            Ok(Ok(number)) => Ok(format!(in alloc; "{{\"volume\":{number}}}\n")?),
+            Ok(Err(refusal)) => Err(Failure::Unturned(refusal)),
             Err(reason) => Err(Failure::NoServer { control, reason }),
         }
     }

@@ -10,22 +10,12 @@ use std::rt::Files;
 use std::sync::Wait;
 use std::thread::Threads;
 use std::time::Clock;
-use tl_arguments::{Sealing, ServeOptions};
-use tl_file_journal::{End, StoreRefusal, Stored};
+use tl_arguments::{Sealing, ServeOptions, StoreFiles};
+use tl_file_journal::{End, StoreOptions, StoreRefusal, Stored};
 use tl_generations::Succession;
 use tl_server::{Journal, Keeper, Texts};
 use tl_store_commands::Retaken;
 use tl_tree::Tree;
-
-/// The store of a server, the tree that it is made of, the folder of its copies, the mode of the file that is made, and where the tree is saved in the end.
-#[derive(Clone, Copy, Debug)]
-pub struct StoreFiles<'p> {
-    pub store: &'p str,
-    pub tree: Option<&'p str>,
-    pub copies: Option<&'p str>,
-    pub mode: Option<u32>,
-    pub save: Option<&'p str>,
-}
 
 impl<'a, R> Program<'a, R>
 where
@@ -95,8 +85,7 @@ where
         K: Keeper + Texts + Finish + Send + Drop,
         F: FnOnce(Trails, Succession, u32) -> K + Drop,
         J: Journal + End + Sync + Drop,
-        O: FnOnce(&str, Option<Tree>, Option<&str>, Option<u32>) -> Result<Stored<J>, StoreRefusal>
-            + Drop,
+        O: FnOnce(StoreOptions<'_>, Option<Tree>) -> Result<Stored<J>, StoreRefusal> + Drop,
         requires archive { F.IsAlwaysCallable archive }
         requires opens { O.IsAlwaysCallable opens }
     {
@@ -105,9 +94,16 @@ where
             return Err(Failure::Refused(CliFault::Memory));
         };
         let trails = self.trails_of(lasting)?;
-        let tree = self.tree_for(files.store, files.tree)?;
-        let Stored { opening, retaken } = opens(files.store, tree, files.copies, files.mode)?;
-        self.show_retaken(files.store, retaken);
+        let store = StoreOptions {
+            path: files.store,
+            copies: files.copies,
+            mode: files.mode,
+            calls: u64::from(files.calls),
+            keys: files.keys,
+        };
+        let tree = self.tree_for(store.path, files.tree)?;
+        let Stored { opening, retaken } = opens(store, tree)?;
+        self.show_retaken(store.path, retaken);
         self.serve_opened(
             opening, trails, options, lasting, procedures, files.save, archive,
         )

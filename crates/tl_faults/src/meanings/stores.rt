@@ -106,6 +106,24 @@ pub fn from_1015_to_1090(number: u16) -> Option<Meaning> {
             when: "a newer version of treedb made the store, in a form that this one doesn't know; the file stays as it is",
             advice: "take that version, or a newer one",
         }),
+        1019 => Some(Meaning {
+            parts: "",
+            name: "stray log",
+            when: "a log lies beside a closed volume of a store, whose own was taken into it; nothing is read or changed",
+            advice: "remove `N.db-wal`, if it is of another store; look at who put it there",
+        }),
+        1020 => Some(Meaning {
+            parts: ", volume",
+            name: "seam of volumes",
+            when: "`audit` or `export` of a store in volumes: the volume isn't the file that SHA256SUMS lists, or doesn't go on where the one before ended",
+            advice: "put the file back from a copy: a closed volume never changes",
+        }),
+        1023 => Some(Meaning {
+            parts: ", epoch",
+            name: "no such epoch",
+            when: "`export --until`: the store has no epoch of that number, or its volume isn't there",
+            advice: "a lower number; put the volume back",
+        }),
         1090 => Some(Meaning {
             parts: "",
             name: "memory, store",

@@ -1,4 +1,4 @@
-use Rattle.std.proofs.Common.{rules, ◌≡◌, Some, option_map, string_bytes}
+use Rattle.std.proofs.Common.{rules, ◌≡◌, ◌+ℤ◌, ℤ, pos, Some, option_map, string_bytes}
 use Rattle.tl_keys.specs.Kept.{KeptValue}
 use Rattle.tl_rows.specs.Rows.{numbers_in}
 use Rattle.tl_store_commands.specs.Remembering.{HasKey}
@@ -7,16 +7,18 @@ use Rattle.tl_store_commands.proofs.RememberingLemmas.{one_more}
 use Rattle.tl_store_commands.proofs.remembering.remember_call.Goals as goal
 
 pub returns-clause-stored : goal.returns-clause-stored
-returns-clause-stored c = λ contents is_call is_reply all.
+returns-clause-stored c = λ contents is_call is_reply start all.
     let call = c.args.call.now in
     let reply = c.args.reply.now in
     let key = string_bytes c.in_ok-clone.field-0 in
     let values = c.in-Some-2.reply.items in
     let has_key : option_map string_bytes call.key ≡ Some key = search rules in
     let numbers : Some values ≡ numbers_in (string_bytes reply.reply) = search rules in
-    let kept : KeptValue = record { epoch = call.epoch; call = call.number; reply = values } in
+    let epoch = c.in-Some-number_among.epoch in
+    let counted : epoch ≡ pos c.args.before +ℤ call.epoch = search rules in
+    let kept : KeptValue = record { epoch = epoch; call = call.number; reply = values } in
     let is : c.in_ok-kept.kept ≡ kept = search rules in
-    one_more contents c.args.index.now c.remember.new.self call reply key values c.in_ok-kept.kept c.requires has_key numbers is c.in_ok-remember.ensures is_call is_reply all
+    one_more start c.args.before contents c.args.index.now c.remember.new.self call reply key epoch values c.in_ok-kept.kept c.requires has_key numbers counted is c.in_ok-remember.ensures is_call is_reply all
 
 pub returns-clause-held : goal.returns-clause-held
 returns-clause-held c =

@@ -11,7 +11,7 @@ use Rattle.tl_store_commands.proofs.KeyedLemmas.{held_same, held_more, found_non
 use Rattle.tl_store_commands.proofs.remembering.remember_calls.Goals as goal
 
 pub loop-number-init : goal.loop-number-init
-loop-number-init c = (λ contents calls replies all. all, held_same [] c.args.index.now, found_none c.args.replies.now c.args.index.now)
+loop-number-init c = (λ contents calls replies start all. all, held_same [] c.args.index.now, found_none c.args.replies.now c.args.index.now)
 
 pub loop-number-preserved : goal.loop-number-preserved
 loop-number-preserved c =
@@ -23,10 +23,10 @@ loop-number-preserved c =
     let front : take (n + 1) calls ≡ take n calls ++ at.result ∷ [] =
     let next : n + 1 ≡ suc n = omega arith in
     ap (λ k. take k calls) next ∙ take-suc calls n at.result c.loop-number-test.true ∙ ap (λ x. take n calls ++ x ∷ []) (sym at.is) in (
-      λ contents are replies all.
+      λ contents are replies start all.
           let P : CallRow → Type 0 = λ call. Contains (contents CALL) (call_columns call) in
           let is_call = subst P (sym at.is) (All-get_or P calls n at.result c.loop-number-test.true are) in
-          now.stored contents is_call replies (before.0 contents are replies all),
+          now.stored contents is_call replies start (before.0 contents are replies start all),
       subst (λ (xs : List CallRow). HoldsOn xs c.args.index.now c.remember_one.new.index) (sym front)
           (held_more (take n calls) at.result c.args.index.now c.loop-number.index c.remember_one.new.index before.1 now.held),
       subst (λ (xs : List CallRow). AreFound xs c.args.replies.now c.remember_one.new.index) (sym front)

@@ -20,7 +20,7 @@ returns-clause-keys g c =
     let marks = c.args.marks.now in
     let bounds : (last.calls ≤ marks.calls) × (last.replies ≤ marks.replies) = search rules in
     on_ok_weaker c.remember_calls.result
-    (λ learns clean contents holds marked all.
+    (λ learns clean contents holds marked start all.
     let clean1 : IsClean (g.S.Store.view c.read_part.new.store) = omega (arith, clean, c.read_part-2.ensures.clean) in
     let same : (g.S.Store.view c.read_part.new.store).trees ≡ old = ap (λ v. v.trees) ((c.in_ok-calls.ensures.reads clean1).same) in
     let first = c.in-Some.first in
@@ -33,7 +33,7 @@ returns-clause-keys g c =
     learns contents
     (All-same (λ call. Contains (contents CALL) (call_columns call)) c.as_slice-2.result.now c.in_ok-calls.calls.items c.as_slice-2.ensures.value calls)
     (All-same (λ reply. Contains (contents REPLY) (reply_columns reply)) c.as_slice-3.result.now c.in_ok-replies.replies.items c.as_slice-3.ensures.value replies)
-    all)
+    start all)
     c.remember_calls.ensures.stored
 
 pub returns-clause-found : goal.returns-clause-found

@@ -18,7 +18,7 @@ loop-epoch-init g c =
       search rules,
       (λ clean contents holds marked.
           let read : contents SEAL ≡ map seal_columns c.in_ok-seals.seals.items = all_read contents first.trees SEAL (map seal_columns c.in_ok-seals.seals.items) (omega arith) holds (c.in_ok-seals.ensures.rows clean) in
-          (read, finds_none contents c.first_recalled-first.result c.new-index.result)),
+          (read, finds_none contents c.first_recalled-first.result c.args.index)),
       search rules,
       search rules,
       search rules,
@@ -29,10 +29,11 @@ loop-epoch-preserved g c =
     let first = g.S.Store.view c.args.store.now in
     let mid = g.S.Store.view c.loop-epoch.store in
     let new = g.S.Store.view c.remember_epoch.new.store in (
-      (λ clean contents holds marked.
+      (λ clean contents holds marked start all.
           let before : IsClean mid = omega (arith, clean, c.remember_epoch.ensures.clean) in
           let same : mid.trees ≡ first.trees = ap (λ v. v.trees) ((c.loop-epoch.invariant.2 before).same) in
-          c.in_ok-remember_epoch.ensures.keys clean contents (subst (λ (db : Trees). Holds db contents) (sym same) holds) marked (c.loop-epoch.invariant.0 before contents holds marked)),
+          c.in_ok-remember_epoch.ensures.keys clean contents (subst (λ (db : Trees). Holds db contents) (sym same) holds) marked start
+          (c.loop-epoch.invariant.0 before contents holds marked start all)),
       (λ clean contents holds marked.
           let before : IsClean mid = omega (arith, clean, c.remember_epoch.ensures.clean) in
           let same : mid.trees ≡ first.trees = ap (λ v. v.trees) ((c.loop-epoch.invariant.2 before).same) in
@@ -41,7 +42,7 @@ loop-epoch-preserved g c =
           let read : contents SEAL ≡ map seal_columns c.as_slice-in-loop-epoch.result.now =
           subst (λ (l : List SealRow). contents SEAL ≡ map seal_columns l) (sym c.as_slice-in-loop-epoch.ensures.value) past.0 in (
             past.0,
-            finds_on contents c.first_recalled-first.result c.loop-epoch.epoch c.loop-epoch.index c.remember_epoch.new.index past.1
+            finds_on contents c.first_recalled-first.result c.loop-epoch.epoch c.loop-epoch.now c.remember_epoch.new.index past.1
                 (c.in_ok-remember_epoch.ensures.found clean contents shown marked read),
           )),
       (λ clean.
@@ -57,7 +58,7 @@ returns-clause-whole g c = λ clean contents holds marked.
     let items = c.in_ok-seals.seals.items in
     let many : length (contents SEAL) ≡ length items = ap length past.0 ∙ length-map items seal_columns in
     let value = c.as_slice.ensures.value in
-    finds_last contents c.first_recalled-first.result c.loop-epoch.epoch c.loop-epoch.index past.1 (omega (arith, many, c.loop-epoch-test.false))
+    finds_last contents c.first_recalled-first.result c.loop-epoch.epoch c.loop-epoch.now past.1 (omega (arith, many, c.loop-epoch-test.false))
     (λ epoch calls replies place began below lately.
     let here : Began (map seal_columns c.as_slice.result.now) (suc epoch) calls replies =
     subst (λ (l : List SealRow). Began (map seal_columns l) (suc epoch) calls replies) (sym value) (subst (λ (l : List Row). Began l (suc epoch) calls replies) past.0 began) in

@@ -12,7 +12,7 @@ returns-in-Some-clause-stored c =
     let reply = c.in-Some.reply.now in
     let among : Contains c.args.replies.now reply = search rules in
     on_ok_weaker c.remember_call.result
-    (λ learns contents is_call replies all. learns contents is_call (All-contains (λ r. Contains (contents REPLY) (reply_columns r)) c.args.replies.now reply replies among) all)
+    (λ learns contents is_call replies start all. learns contents is_call (All-contains (λ r. Contains (contents REPLY) (reply_columns r)) c.args.replies.now reply replies among) start all)
     c.remember_call.ensures.stored
 
 pub returns-in-Some-clause-here : goal.returns-in-Some-clause-here

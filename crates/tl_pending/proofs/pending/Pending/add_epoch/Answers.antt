@@ -6,7 +6,7 @@ use Rattle.tl_ledger.specs.declared.committing.Marks.{Marks}
 use Rattle.tl_news.specs.News.{asked}
 use Rattle.tl_pending.specs.declared.pending.Pending.{Pending}
 use Rattle.tl_pending.specs.Claims.{Learns}
-use Rattle.tl_pending.specs.Pendings.{column, more, counted, seal_after, new_form, admitted_from, turn_forms, answer_form, HasSeal}
+use Rattle.tl_pending.specs.Pendings.{column, more, added, counted, seal_after, new_form, admitted_from, turn_forms, answer_form, HasSeal}
 use Rattle.tl_rows.specs.Batches.{Batch}
 use Rattle.tl_rows.specs.Changes.{Leads}
 use Rattle.tl_pending.proofs.pending.Pending.add_epoch.Goals as goal
@@ -16,6 +16,7 @@ returns-in_default c =
     let old = c.args.self.now in
     let came = c.args.came in
     let epoch : to_z w64 (of_z w64 c.column-epoch.result) ≡ column old.rows.seals = search rules in
+    let number : to_z w64 (of_z w64 c.column-number.result) ≡ column (added old.before old.rows.seals) = search rules in
     let claims = c.as_slice-claims.ensures.value in
     let procedures = c.in_ok-push_procedures.ensures in
     let calls = c.in_ok-push_calls.ensures in
@@ -33,6 +34,7 @@ returns-in_default c =
         seals = old.news.seals;
         records = old.news.records;
       };
+      before = old.before;
       rows = c.counted-self.result;
       records = old.records;
       claims = old.claims;
@@ -57,9 +59,10 @@ returns-in_default c =
         replies = replies.2 ∙ (λ j. map (answer_form (epoch j)) (c.as_slice-5.ensures.value j));
       };
       seal = subst (λ (o : Option (Vec (List ℤ) Global)). HasSeal (option_map (λ v. v.items) o) (counted came old.rows) rows old new) (sym c.in_default.is) (refl, refl, refl, c.counted-self.ensures);
-      learns = subst (λ e. Learns old.claims.items e came.answers.items old.index c.learn.new.index) epoch
-          (subst (λ answers. Learns old.claims.items (to_z w64 (of_z w64 c.column-epoch.result)) answers old.index c.learn.new.index) c.as_slice.ensures.value
-          (subst (λ claimed. Learns claimed (to_z w64 (of_z w64 c.column-epoch.result)) c.as_slice.result.now old.index c.learn.new.index) claims c.in_ok-learn.ensures));
+      learns = subst (λ e. Learns old.claims.items e came.answers.items old.index c.learn.new.index) number
+          (subst (λ answers. Learns old.claims.items (to_z w64 (of_z w64 c.column-number.result)) answers old.index c.learn.new.index) c.as_slice.ensures.value
+          (subst (λ claimed. Learns claimed (to_z w64 (of_z w64 c.column-number.result)) c.as_slice.result.now old.index c.learn.new.index) claims c.in_ok-learn.ensures));
+      before = refl;
       claims = refl;
       mark = refl;
       lost = refl;
@@ -70,6 +73,7 @@ returns c =
     let old = c.args.self.now in
     let came = c.args.came in
     let epoch : to_z w64 (of_z w64 c.column-epoch.result) ≡ column old.rows.seals = search rules in
+    let number : to_z w64 (of_z w64 c.column-number.result) ≡ column (added old.before old.rows.seals) = search rules in
     let claims = c.as_slice-claims.ensures.value in
     let procedures = c.in_ok-push_procedures.ensures in
     let calls = c.in_ok-push_calls.ensures in
@@ -102,6 +106,7 @@ returns c =
         seals = c.push.new.self;
         records = c.push_changes.new.rows;
       };
+      before = old.before;
       rows = marks;
       records = c.in-Some.records;
       claims = old.claims;
@@ -127,9 +132,10 @@ returns c =
       };
       seal = subst (λ (o : Option (Vec (List ℤ) Global)). HasSeal (option_map (λ v. v.items) o) (counted came old.rows) rows old new) (sym c.in-Some.is)
           (ap (λ s. s ∷ []) (c.seal_after.ensures ∙ ap seal_after counts), leads, refl, marked);
-      learns = subst (λ e. Learns old.claims.items e came.answers.items old.index c.learn.new.index) epoch
-          (subst (λ answers. Learns old.claims.items (to_z w64 (of_z w64 c.column-epoch.result)) answers old.index c.learn.new.index) c.as_slice.ensures.value
-          (subst (λ claimed. Learns claimed (to_z w64 (of_z w64 c.column-epoch.result)) c.as_slice.result.now old.index c.learn.new.index) claims c.in_ok-learn.ensures));
+      learns = subst (λ e. Learns old.claims.items e came.answers.items old.index c.learn.new.index) number
+          (subst (λ answers. Learns old.claims.items (to_z w64 (of_z w64 c.column-number.result)) answers old.index c.learn.new.index) c.as_slice.ensures.value
+          (subst (λ claimed. Learns claimed (to_z w64 (of_z w64 c.column-number.result)) c.as_slice.result.now old.index c.learn.new.index) claims c.in_ok-learn.ensures));
+      before = refl;
       claims = refl;
       mark = refl;
       lost = refl;

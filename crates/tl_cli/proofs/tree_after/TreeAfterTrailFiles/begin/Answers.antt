@@ -1,0 +1,13 @@
+use Rattle.std.proofs.Common.{sym, subst}
+use Rattle.std.proofs.lemmas.Result.{on_ok_weaker}
+use Rattle.tl_audit.specs.Chains.{trails_of}
+use Rattle.tl_cli.specs.Epochs.{IsAfter}
+use Rattle.tl_file_export.proofs.FiledLemmas.{trails_begun}
+use Rattle.tl_cli.proofs.tree_after.TreeAfterTrailFiles.begin.Goals as goal
+
+pub returns : goal.returns
+returns g =
+    let s = g.see.new.self in
+    on_ok_weaker g.see.result
+    (λ more files after. subst (λ trails. IsAfter s.epoch s.seen s.tree trails) (sym (trails_begun g.args.trail.now files)) (more (trails_of files) after))
+    g.see.ensures
