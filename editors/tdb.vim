@@ -12,6 +12,8 @@ syntax keyword tdbLeave break return fail require
 syntax keyword tdbOutput emit
 syntax keyword tdbWord and or not
 syntax match tdbSoft /\<\(each\|of\|at most\|to\)\>/
+syntax match tdbChoice /}\s*\zs\<found\ze\s*(/
+syntax match tdbLeave /\<break\s\+with\>/
 syntax match tdbChoice /\<while\>\(\s*\([+-]\?=\|\.\)\)\@!/
 syntax match tdbDeclaration /\<atomic\ze\s\+proc\>/
 syntax match tdbDeclaration /\<part\ze\s\+\h\w*\s*(/

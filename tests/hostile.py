@@ -12,11 +12,11 @@ BOUNDS, MOST_USED = [4, 8, 16, 32, 64, 80, 256, 1_024, 4_096], 262_144
 # Numbers at which a number, a field or a bound is another one.
 NUMBERS = [*range(10), 15, 16, 17, 31, 32, 33, 63, 64, 65, 255, 256, 65_535, 65_536, 2**31 - 1, 2**31, 2**32, 2**63, 10**30]
 RESERVED = "and break child const descend else emit fail field for free if kids let lock node not or proc repeat require return try".split()
-WORDS = [*RESERVED, *"at atomic each most of part to while".split(), *"a b c f n p x _".split(), *"{ } ( ) ; , . = += -= + - * / < <= > >= == != % ! // 0 1 7 1_000 01 # é".split(), "\n"]
+WORDS = [*RESERVED, *"at atomic each found most of part to while with".split(), *"a b c f n p x _".split(), *"{ } ( ) ; , . = += -= + - * / < <= > >= == != % ! // 0 1 7 1_000 01 # é".split(), "\n"]
 # What opens a level, and what closes it again.
 LEVELS = {
     "statement": [("{", "}"), ("if x < 1 {", "}"), ("if x < 1 {} else {", "}"), ("repeat 1 {", "}"), ("try {", "} else {}"), ("try {} else {", "}"), ("while x < 1 at most 1 {", "}"),
-                  ("x = 1 else {", "}"), ("if lock m = child(n, 0) {", "}"), ("for each child c of n at most 1 {", "}")],
+                  ("x = 1 else {", "}"), ("if lock m = child(n, 0) {", "}"), ("for each child c of n at most 1 {", "}"), ("repeat 1 { break with 1; } found (y) {", "}")],
     "number": [("(", ")"), ("-", ""), ("1 + ", ""), ("2 * (", ")"), ("", " - 1"), ("- -", "")],
     "condition": [("not ", ""), ("(", ")"), ("x < 1 and ", ""), ("x < 1 or (", ")")],
 }
@@ -27,6 +27,7 @@ WIDE = [
     ("proc p(x) {{ x = {}; }}", "x", " + "), ("proc p(x) {{ require {}; }}", "x < {}", " and "), ("proc p(x) {{ {} }}", "if x == {} {{ emit x; }} else", " "), ("{}", "proc p{}() {{}}", "\n"),
     ("{}", "const C{} = 1;", "\n"), ("{}", "field f{} = 0;", "\n"), ("field f = 0; proc p() {{ lock n = node(0); {} }}", "lock m{} = child(n, 0);", ""), ("part q(x) {{ x = 1; }} proc p(x) {{ {} }}", "q(x);", ""),
     ("part q({}) {{}} proc p() {{}}", "a{}", ", "), ("field f = 0; proc p() {{ lock n = node(0); {}; }}", "n.f = {}", ", "), ("proc p(x) {{ {} }}", "repeat {} {{ x = 1; }}", ""), ("proc p() {{ lock n = node(0); {} }}", "{{ lock m = child(n, {}); }}", ""),
+    ("proc p(x) {{ repeat 1 {{ break with {}; }} found (a) {{}} }}", "{}", ", "), ("proc p(x) {{ repeat 1 {{ break with x; }} found ({}) {{}} }}", "a{}", ", "),
 ]
 
 

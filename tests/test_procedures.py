@@ -8,12 +8,15 @@ from running import TOP
 FOLDER = TOP / "tests/procedures"
 TAKEN = """
     atomic_bulk_write atomic_bulk_write_by_try bom_one_level codes constant_as_field_or_bound lease least_number_behind_an_operator ledger_two_subtrees part_and_a_later_constant part_that_gives_nothing_back queue_ring quota_any_depth
-    reservation_expiry search_by_while search_sorted sum_behind_a_condition three_way_split top3_one_pass top_k_in_passes
+    reservation_expiry search_by_while search_found search_sorted sum_behind_a_condition three_way_split top3_one_pass top_k_in_passes
     transfer_with_reasons versioned
 """.split()
 # The number of the fault, its line and its column.
 REFUSED = {
     "bom_recursive": [275, 4, 39],
+    "break_with_through_a_loop": [288, 4, 24],
+    "break_with_too_few": [279, 3, 20],
+    "break_with_without_found": [288, 3, 20],
     "children_listed": [297, 4, 44],
     "code_by_an_old_name": [276, 2, 38],
     "code_of_64_bits": [271, 3, 21],
@@ -106,6 +109,22 @@ def test_what_they_do(tests):
 def test_codes(tests):
     for name, arguments, reply in CODES:
         run = tests.run("alone", "--tree", FOLDER / "tree.json", "--proc", FOLDER / "codes.tdb", "--name", name, "--args", json.dumps(arguments))
+        tests.check(f"{name} {arguments}", run.status == 0 and json.loads(run.out.splitlines()[0])["reply"] == reply, run)
+
+
+# What the procedures of `search_found` answer: of the node 0, whose children have the keys 5, 9 and 7.
+FOUND = [
+    ("find", [0, 9], [1, 10]), ("find", [0, 5], [0, 6]), ("find", [0, 7], [2, 8]), ("find", [0, 8], [-1]), ("find", [1, 5], [-1]), ("find", [9, 5], []),
+    ("without_else", [0, 7], [2, 9]), ("without_else", [0, 8], [9]), ("whether", [0, 9], [1]), ("whether", [0, 8], [0]),
+    ("up_to", [0, 9, 7], [1]), ("up_to", [0, 7, 9], [-1]), ("up_to", [0, 4, 4], [-1]), ("counted", [20], [8]), ("counted", [7], [-7]), ("counted", [0], [0]),
+    ("pairs", [13], [0, 8]), ("pairs", [18], [1, 9]), ("pairs", [22], [-1]), ("failing", [1], [1]), ("failing", [0], [-1]),
+    ("twice", [0, 2, 3], [2, 3]), ("twice", [0, 2, 9], [2, 0]), ("twice", [0, 9, 1], [0, 1]), ("named", [4], [7]),
+]
+
+
+def test_found(tests):
+    for name, arguments, reply in FOUND:
+        run = tests.run("alone", "--tree", FOLDER / "tree.json", "--proc", FOLDER / "search_found.tdb", "--name", name, "--args", json.dumps(arguments))
         tests.check(f"{name} {arguments}", run.status == 0 and json.loads(run.out.splitlines()[0])["reply"] == reply, run)
 
 

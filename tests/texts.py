@@ -24,7 +24,10 @@ class Fails(Exception):
 
 
 class Breaks(Exception):
-    """Control leaves the innermost loop."""
+    """Control leaves the innermost loop, with numbers or without."""
+
+    def __init__(self, numbers=None):
+        self.numbers = numbers
 
 
 class Returns(Exception):
@@ -41,10 +44,13 @@ class Scope:
         self.values, self.nodes, self.fixed, self.in_part, self.writes = list(values), list(nodes), set(), in_part, writes
         # The loops around the place, how many values may be emitted behind it, the nodes whose children were locked, and how many loops were around each node's lock.
         self.loops, self.emits, self.used, self.depths = 0, [EMITS], set(nodes), dict.fromkeys(nodes, 0)
+        # How many numbers the innermost loop may be left with.
+        self.found = 0
 
     def inner(self):
         other = Scope(self.values, self.nodes, self.in_part, self.writes)
         other.fixed, other.loops, other.emits, other.used, other.depths = set(self.fixed), self.loops, self.emits, self.used, dict(self.depths)
+        other.found = self.found
         return other
 
     def assignable(self):
@@ -103,7 +109,10 @@ class Texts:
         return self.chance.choice([("number", self.chance.choice(NUMBERS)), *(("constant", name) for name in self.constants), *(("value", name) for name in scope.values)])
 
     def leave(self, scope):
-        word = self.chance.choice(["fail", "fail", *([] if scope.in_part else ["return"]), *(["break"] if scope.loops else [])])
+        words = ["fail", "fail", *([] if scope.in_part else ["return"]), *(["break"] if scope.loops else []), *(["break with"] * 4 if scope.found else [])]
+        word = self.chance.choice(words)
+        if word == "break with":
+            return ("leave", word, [self.number(scope, 1) for _ in range(scope.found)])
         return ("leave", word, self.code(scope) if word == "fail" else None)
 
     def heard(self, scope, made):
@@ -132,16 +141,28 @@ class Texts:
             statements.append(("free", own[-1]))
         return statements
 
-    def loop(self, scope, depth, **names):
-        """A block that is a loop's, in which these names are known too."""
+    def loop(self, scope, depth, found=0, **names):
+        """A block that is a loop's, in which these names are known too, and which may be left with so many numbers."""
         inner = scope.inner()
         inner.loops += 1
+        inner.found = found
         if "child" in names:
             inner.lock(names["child"])
         if "place" in names:
             inner.values.append(names["place"])
             inner.fixed.add(names["place"])
-        return self.block(inner, depth)
+        left = [("if", self.condition(inner, 1), [self.leave(inner)], None)] if found else []
+        return [*self.block(inner, depth, 3), *left]
+
+    def searched(self, scope, depth, made):
+        """A loop, which may have a `found` behind it."""
+        count = self.chance.randrange(1, 3) if self.often(0.4) and len(scope.values) + 3 <= VALUES else 0
+        loop = made(count)
+        if count == 0:
+            return loop
+        inner, names = scope.inner(), [self.name("r") for _ in range(count)]
+        inner.values += names
+        return ("found", loop, names, self.block(inner, depth), self.block(scope, depth) if self.often(0.7) else None)
 
     def statement(self, scope, depth):
         kinds = [self.declared, self.assigned, self.assigned, self.written_fields, self.written_fields, self.emitted, self.required]
@@ -191,7 +212,7 @@ class Texts:
         if scope.loops >= LOOPS:
             return None
         bound, often = self.chance.randrange(1, 5), self.number(scope, 1) if self.often(0.5) else None
-        return ("repeat", bound, often, self.loop(scope, depth))
+        return self.searched(scope, depth, lambda found: ("repeat", bound, often, self.loop(scope, depth, found)))
 
     def repeated_while(self, scope, depth):
         if scope.loops >= LOOPS:
@@ -220,7 +241,8 @@ class Texts:
             return None
         parent, child, place = self.chance.choice(free), self.name("n"), self.name("i") if self.often(0.5) else None
         scope.used.add(parent)
-        return ("each", child, place, parent, self.chance.randrange(1, 9), self.loop(scope, depth, child=child, **{"place": place} if place else {}))
+        names = {"child": child, **({"place": place} if place else {})}
+        return self.searched(scope, depth, lambda found: ("each", child, place, parent, self.chance.randrange(1, 9), self.loop(scope, depth, found, **names)))
 
     def chosen_by_lock(self, scope, depth):
         if not scope.nodes or len(scope.nodes) > NODES:
@@ -329,6 +351,8 @@ def condition_text(condition):
 
 
 def leave_text(word, code):
+    if word == "break with":
+        return f"{word} {', '.join(map(number_text, code))};"
     return f"{word};" if code is None else f"{word} {number_text(code)};"
 
 
@@ -360,6 +384,7 @@ WRITTEN = {
     "try": lambda one, two, why: f"try {block_text(one)}{else_of(two, why)}",
     "block": block_text,
     "repeat": lambda bound, often, body: f"repeat {bound if often is None else f'{number_text(often)} at most {bound}'} {block_text(body)}",
+    "found": lambda loop, names, one, two: f"{WRITTEN[loop[0]](*loop[1:])} found ({', '.join(names)}) {block_text(one)}{else_text(two)}",
     "while": lambda condition, bound, body: f"while {condition_text(condition)} at most {bound} {block_text(body)}",
     "enter": lambda name, number, other: f"lock {name} = node({number_text(number)}){tail(other)}",
     "lock": lambda name, parent, place, other: f"lock {name} = child({parent}, {number_text(place)}){tail(other)}",
@@ -512,17 +537,25 @@ class Meaning:
         self.block(statements)
 
     def turns(self, turns, body):
+        """Answers the numbers that the loop was left with, or None."""
         try:
             for turn in turns:
                 body(turn)
-        except Breaks:
-            pass
+        except Breaks as left:
+            return left.numbers
+
+    def found_(self, loop, names, one, two):
+        numbers = getattr(self, f"{loop[0]}_")(*loop[1:])
+        if numbers is None:
+            return self.block(two or [])
+        self.names.update(zip(names, numbers))
+        return self.block(one)
 
     def repeat_(self, bound, often, body):
         count = bound if often is None else self.coded(BOUND, lambda: self.number(often))
         if count > bound:
             raise Fails(BOUND)
-        self.turns(range(count), lambda _: self.block(body))
+        return self.turns(range(count), lambda _: self.block(body))
 
     def while_(self, condition, bound, body):
         def turn(_):
@@ -585,7 +618,7 @@ class Meaning:
                 self.names[place] = at
             self.block(body)
 
-        self.turns(range(count), turn)
+        return self.turns(range(count), turn)
 
     def use_(self, part, nodes, numbers, other):
         def use():
@@ -602,6 +635,8 @@ class Meaning:
     def leave_(self, word, code):
         if word == "fail":
             raise Fails(0 if code is None else self.number(code))
+        if word == "break with":
+            raise Breaks([self.number(number) for number in code])
         raise {"break": Breaks, "return": Returns}[word]
 
 

@@ -1,5 +1,5 @@
 -- What is read is numbered: each value has the next register.
-use Rattle.std.proofs.Common.{◌≡◌, ℕ, ◌+◌, ◌/◌, List, [], ◌∷◌, length, Option, refl, ap, ◌∙◌, subst, arith}
+use Rattle.std.proofs.Common.{◌≡◌, ℕ, suc, ◌+◌, ◌/◌, List, [], ◌∷◌, length, Option, refl, ap, ◌∙◌, subst, arith}
 use Rattle.std.specs.List.{All}
 use Rattle.std.proofs.lemmas.List.Elements.{All-nil, All-cons, All-head, All-tail, All-push, All-take, All-drop}
 use Rattle.tl_syntax.specs.declared.parsed.Name.{Name}
@@ -18,10 +18,11 @@ use Rattle.tl_lowering.specs.declared.program.Statement.{Statement}
 use Rattle.tl_lowering.specs.declared.program.Statement.TheVariants as S
 use Rattle.tl_syntax.specs.declared.parsed.Form.{Form}
 use Rattle.tl_lowering.specs.declared.program.Expression.{Expression}
-use Rattle.tl_lowering.specs.Failing.{Readers, IsFailure, bare, coded, IsMarked, not_read, sure, marked, IsRenewed, not_renewed, renewed}
-use Rattle.tl_lowering.specs.Names.{Names, with_values, with_place}
+use Rattle.tl_lowering.specs.declared.readers.Readers.{Readers}
+use Rattle.tl_lowering.specs.Failing.{IsFailure, bare, coded, IsMarked, not_read, sure, marked, IsRenewed, not_renewed, renewed}
+use Rattle.tl_lowering.specs.Names.{Names, with_values, with_variable, with_variables, with_room, with_place}
 use Rattle.tl_lowering.specs.Naming.{calculated, then, IsHalved, none, one, more, AreEmits, no_emits, next_emit, AreWritten, all_computed, next_computed, IsWritten, one_write, several_writes, IsAction, assigns, writes, emits, descends, takes, frees, breaks, returns}
-use Rattle.tl_lowering.specs.Reading.{IsAtOffset, at, IsTried, tried, IsVisiting, visiting, IsBlock, block, AreStatements, no_more, next, let_rest, let_told, let_else, lock_rest, lock_else, IsStatement, IsActed, plain, requires, fails, fails_with, used, IsRequired, required, names_in_body, names_in_else, IsCaught, unnamed, named, IsGiven, all_given, node_given, variable_given, value_given, act, act_else, try, try_told, if, if_lock, repeat, repeat_up_to, for_each, block_alone, IsBody, IsProcedure, AreDeclared, none_declared, next_field, next_constant, next_procedure, next_part, IsProgram}
+use Rattle.tl_lowering.specs.Reading.{IsAtOffset, at, IsTried, tried, IsVisiting, visiting, IsBlock, block, AreStatements, no_more, next, let_rest, let_told, let_else, lock_rest, lock_else, IsStatement, IsActed, plain, requires, fails, fails_with, breaks_with, used, AreLeft, none_left, next_left, AreNothing, none_more, one_more, search as searched, IsRequired, required, names_in_body, names_in_else, IsCaught, unnamed, named, IsGiven, all_given, node_given, variable_given, value_given, act, act_else, try, try_told, if, if_lock, repeat, repeat_up_to, for_each, block_alone, IsBody, IsProcedure, AreDeclared, none_declared, next_field, next_constant, next_procedure, next_part, IsProgram}
 use Rattle.tl_lowering.specs.Sound.{IsInOrder}
 use Rattle.tl_compiler.specs.Rooms.{IsNumbered, IsReady}
 
@@ -85,6 +86,20 @@ renewing d (renewed then) x = (x, tt)
 requiring : (d : ℕ) {readers : Readers} {names : Names} {form : Form} {why : Option TextExpression} {s : Statement} → IsRequired readers names form why s → IsNumbered s d
 requiring d (required c r f) = (tt, failing d f)
 
+-- ---- loops that are left with numbers
+
+left : (d : ℕ) {names : Names} {way whole : Statement} {x : ℕ} {es : List TextExpression} → AreLeft names way x es whole → IsNumbered way d → IsNumbered whole d
+left d none_left y = y
+left d (next_left a n fits rest then) y = (tt, left d rest y)
+
+zeros : (d : ℕ) {n : ℕ} {a whole : Statement} → AreNothing d n a whole → IsNumbered a (d + n) → IsNumbered whole d
+zeros d (none_more {a = a}) y = let same : d + 0 ≡ d = omega arith in subst (IsNumbered a) same y
+zeros d (one_more {n = n} {a = a} rest) y = let same : d + suc n ≡ d + n + 1 = omega arith in zeros d rest (refl, subst (IsNumbered a) same y)
+
+named_values : (names : Names) (x : ℕ) (ns : List Name) → (with_variables names x ns).values ≡ names.values
+named_values names x [] = refl
+named_values names x (n ∷ ns) = named_values (with_variable names n x) (x + 1) ns
+
 mutual
   in_block : {before : List Declaration} {readers : Readers} {names : Names} {xs : List TextStatement} {s : Statement} → IsBlock before readers names xs s → IsNumbered s names.values
   in_block {before} {readers} {names} (block are j) = halved names.values j (in_statements are)
@@ -115,12 +130,17 @@ mutual
   in_statement (repeat_up_to xs deep n has turn c a) = in_block a
   in_statement {before} {readers} {names} (for_each xs deep new room has e c a r v) = walk names.values (renewing (names.values + 1) r (in_block a)) v
   in_statement (block_alone xs a) = in_block a
+  in_statement {names = names} (searched turns found other ns {b = b} deep room x new y z then nothing) =
+      let inside = with_room names (length ns.items + 1) in
+      let first = subst (IsNumbered b) (named_values inside (names.values + 1) ns.items) (in_block y) in
+      zeros names.values nothing (in_block x, (first, in_block z))
 
   in_acted : {before : List Declaration} {readers : Readers} {names : Names} {a : Action} {s : Statement} → IsActed before readers names a s → IsNumbered s names.values
   in_acted (plain a) = action a
   in_acted {names = names} (requires r) = requiring names.values r
   in_acted {names = names} (fails f) = failing names.values f
   in_acted {names = names} (fails_with c f) = failing names.values f
+  in_acted {names = names} (breaks_with f d n then a) = left names.values a (tt, tt)
   in_acted (used arguments index part given nests) = in_given given
 
   in_given : {before : List Declaration} {readers : Readers} {outer names : Names} {ps : List Parameter} {args : List TextExpression} {body : List TextStatement} {s : Statement} → IsGiven before readers outer names ps args body s →

@@ -1,5 +1,5 @@
 -- Alike blocks have the same core form, except for the memory that its parts occupy.
-use Rattle.std.proofs.Common.{◌≡◌, ◌∙◌, ℕ, zero, suc, ◌<◌, List, [], ◌∷◌, ◌++◌, take, true, false, true≢false, Option, Some, refl, sym, ap, subst, arith}
+use Rattle.std.proofs.Common.{◌≡◌, ◌∙◌, ℕ, zero, suc, ◌+◌, ◌<◌, List, [], ◌∷◌, ◌++◌, length, take, pos, true, false, true≢false, Option, Some, refl, sym, ap, subst, arith}
 use Rattle.std.specs.Prelude.{slice_get}
 use Rattle.tl_syntax.specs.declared.parsed.Name.{Name}
 use Rattle.tl_syntax.specs.declared.parsed.Expression.{Expression as TextExpression}
@@ -17,9 +17,11 @@ use Rattle.tl_syntax.specs.declared.parsed.Declaration.TheVariants as D
 use Rattle.tl_syntax.specs.Alike as T
 use Rattle.tl_syntax.specs.Alike.{AreAlike, AlikePart, AlikeAction, AlikeForm, AlikePlace, AlikeQuestion, AlikeStatements, AlikeStatementForm}
 use Rattle.tl_syntax.proofs.AlikeForms.{form_of, same_plain}
-use Rattle.tl_syntax.proofs.AlikeParts.{alike_itself, question_itself, same_action_rank, let_of, lock_of, use_of, require_of, fail_of, act_of, else_needed, no_else_needed, act_else_of, try_of, if_of, repeat_of, repeat_at_most_of, most_needed, no_most_needed, for_each_of, block_of, same_statement_rank, Paired, paired_none, paired_more, paired, statement_before}
+use Rattle.tl_syntax.proofs.AlikeParts.{alike_itself, question_itself, same_action_rank, let_of, lock_of, use_of, require_of, fail_of, break_of, act_of, else_needed, no_else_needed, act_else_of, try_of, if_of, repeat_of, repeat_at_most_of, most_needed, no_most_needed, for_each_of, block_of, search_of, same_statement_rank, Paired, paired_none, paired_more, paired, statement_before}
 use Rattle.tl_lowering.specs.declared.program.Statement.{Statement}
-use Rattle.tl_lowering.specs.Alike.{same_constant, same_value, same_children, same_operation, same_child, SameStatement, same_sequence, same_assign, same_fail, same_if, same_let, same_let_else, same_lock, same_try, same_repeat, same_repeat_up_to, same_at, AllSame, none_same, more_same}
+use Rattle.tl_lowering.specs.declared.program.Statement.TheVariants as S
+use Rattle.tl_lowering.specs.declared.program.Expression.TheVariants as E
+use Rattle.tl_lowering.specs.Alike.{same_constant, same_value, same_children, same_operation, same_child, same_equal, SameStatement, same_sequence, same_assign, same_break, same_fail, same_if, same_let, same_let_else, same_lock, same_try, same_repeat, same_repeat_up_to, same_at, AllSame, none_same, more_same}
 use Rattle.tl_lowering.specs.declared.loops.Repetition.{Repetition}
 use Rattle.tl_lowering.specs.declared.loops.Repetition.TheVariants as R
 use Rattle.tl_lowering.specs.Choosing.{IsKept, IsTurnBody}
@@ -29,12 +31,14 @@ use Rattle.tl_syntax.specs.Codes.{code_of}
 use Rattle.tl_syntax.specs.declared.parsed.Form.{Form}
 use Rattle.tl_syntax.specs.declared.parsed.Leave.TheVariants as L
 use Rattle.tl_lowering.specs.declared.program.Expression.{Expression}
-use Rattle.tl_lowering.specs.Failing.{Readers, number_failure, is_told}
+use Rattle.tl_lowering.specs.declared.readers.Finding.{Finding}
+use Rattle.tl_lowering.specs.declared.readers.Readers.{Readers}
+use Rattle.tl_lowering.specs.Failing.{searching, in_part, number_failure, is_told}
 use Rattle.tl_lowering.specs.Outcomes.{may_fail}
 use Rattle.tl_lowering.proofs.FailureLemmas.{same_may_fail, same_place_failure, alike_failure, alike_marked, alike_renewed, alike_required}
-use Rattle.tl_lowering.specs.Names.{Names, stands_for, index_of, inside, with_alias, with_variable, in_loop, with_index, with_value, with_node}
-use Rattle.tl_lowering.specs.Naming.{calculated, IsAction, assigns, writes, emits, descends, takes, frees, breaks, returns, then, declares, IsNumber}
-use Rattle.tl_lowering.specs.Reading.{IsAtOffset, at, IsTried, tried, IsVisiting, visiting, IsBlock, block, AreStatements, no_more, next, let_rest, let_told, let_else, lock_rest, lock_else, IsStatement, IsActed, plain, requires, fails, fails_with, used, IsGiven, all_given, node_given, variable_given, value_given, act, act_else, try, try_told, if, if_lock, repeat, repeat_up_to, for_each, block_alone}
+use Rattle.tl_lowering.specs.Names.{Names, stands_for, index_of, inside, with_alias, with_variable, with_room, with_variables, in_loop, with_index, with_value, with_node}
+use Rattle.tl_lowering.specs.Naming.{calculated, IsAction, assigns, writes, emits, descends, takes, frees, breaks, returns, IsThen, then, declares, IsNumber}
+use Rattle.tl_lowering.specs.Reading.{IsAtOffset, at, IsTried, tried, IsVisiting, visiting, IsBlock, block, AreStatements, no_more, next, let_rest, let_told, let_else, lock_rest, lock_else, IsStatement, IsActed, plain, requires, fails, fails_with, used, IsGiven, all_given, node_given, variable_given, value_given, act, act_else, try, try_told, if, if_lock, repeat, repeat_up_to, for_each, block_alone, search as searched, breaks_with, AreLeft, none_left, next_left, AreNothing, none_more, one_more, finding_at, was_found}
 use Rattle.tl_lowering.proofs.AlikeLemmas.{alike_number, alike_condition, alike_count, alike_place, same_names, alike_halved, alike_action}
 
 -- ---- a text that has a core form is like itself
@@ -65,6 +69,7 @@ mutual
   form_itself (repeat_up_to xs deep n has turn c a) = T.repeat_at_most xs xs (alike_itself _) (alike_itself _) (block_itself a)
   form_itself (for_each xs deep new room has e c a k v) = T.for_each xs xs (alike_itself _) (block_itself a)
   form_itself (block_alone xs a) = T.block_alone xs xs (block_itself a)
+  form_itself (searched turns found other ns deep room x new y z then nothing) = T.search turns found other turns found other refl (block_itself x) (block_itself y) (block_itself z)
 
 given_itself : {before : List Declaration} {readers : Readers} {outer names : Names} {ps : List Parameter} {args : List TextExpression} {body : List TextStatement} {a : Statement} → IsGiven before readers outer names ps args body a
     → AlikeStatements body body
@@ -156,6 +161,7 @@ special (A.Require e why) = 1
 special (A.Leave L.Fail) = 2
 special (A.Fail e) = 3
 special (A.Use name arguments) = 4
+special (A.BreakWith values) = 5
 special action = 0
 
 same_special : {a b : Action} → AlikeAction a b → special a ≡ special b
@@ -168,6 +174,7 @@ same_special (T.requires x y) = refl
 same_special (T.locks x) = refl
 same_special (T.descends x) = refl
 same_special (T.fails_with x) = refl
+same_special (T.breaks_with x) = refl
 same_special (T.uses x) = refl
 
 plain_special : {names : Names} {action : Action} {a : Statement} → IsAction names action a → special action ≡ 0
@@ -186,6 +193,7 @@ acted_rank (requires r) = 1
 acted_rank (fails f) = 2
 acted_rank (fails_with c f) = 3
 acted_rank (used args i p g d) = 4
+acted_rank (breaks_with f d n t a) = 5
 
 acted_is : {before : List Declaration} {readers : Readers} {names : Names} {action : Action} {a : Statement} (x : IsActed before readers names action a) → special action ≡ acted_rank x
 acted_is (plain x) = plain_special x
@@ -193,6 +201,7 @@ acted_is (requires r) = refl
 acted_is (fails f) = refl
 acted_is (fails_with c f) = refl
 acted_is (used args i p g d) = refl
+acted_is (breaks_with f d n t a) = refl
 
 no_opening : {before : List Declaration} {readers : Readers} {names : Names} {action : Action} {a : Statement} → IsActed before readers names action a → declares action ≡ true → ⊥
 no_opening (plain x) e = no_action x e
@@ -200,6 +209,7 @@ no_opening (requires r) e = cc
 no_opening (fails f) e = cc
 no_opening (fails_with c f) e = cc
 no_opening (used args i p g d) e = cc
+no_opening (breaks_with f d n t a) e = cc
 
 no_statement : {before : List Declaration} {readers : Readers} {names : Names} {form : StatementForm} {a : Statement} → IsStatement before readers names form a → opens form ≡ true → ⊥
 no_statement (act x) e = no_opening x e
@@ -212,6 +222,7 @@ no_statement (repeat xs deep c a) e = cc
 no_statement (repeat_up_to xs deep n has turn c a) e = cc
 no_statement (for_each xs deep new room has e c a k v) f = cc
 no_statement (block_alone xs a) e = cc
+no_statement (searched turns found other ns deep room x new y z then nothing) e = cc
 
 same_declares : {a b : Action} → AlikeAction a b → declares a ≡ declares b
 same_declares T.same_action = refl
@@ -223,6 +234,7 @@ same_declares (T.requires x y) = refl
 same_declares (T.locks x) = refl
 same_declares (T.descends x) = refl
 same_declares (T.fails_with x) = refl
+same_declares (T.breaks_with x) = refl
 same_declares (T.uses x) = refl
 
 same_opens : {f g : StatementForm} → AlikeStatementForm f g → opens f ≡ opens g
@@ -234,6 +246,7 @@ same_opens (T.repeat a b x y) = refl
 same_opens (T.repeat_at_most a b x m y) = refl
 same_opens (T.for_each a b x y) = refl
 same_opens (T.block_alone a b x) = refl
+same_opens (T.search a b c d e f n x y z) = refl
 
 -- a statement that declares names for the rest of its block isn't like one that doesn't
 left_opens : {before : List Declaration} {readers : Readers} {names : Names} {f g form : StatementForm} {a : Statement} → AlikeStatementForm f g → f ≡ form → opens form ≡ true → IsStatement before readers names g a → ⊥
@@ -275,6 +288,21 @@ told_or_not c s n m a b = absurd (true≢false (sym b ∙ ap (λ z. is_told c (n
 not_or_told : {names : Names} {x y : Form} {e f : Expression} (c : Option ℕ) {A : Type 0} → AlikeForm x y → IsNumber names x e → IsNumber names y f → is_told c (number_failure (may_fail e)) ≡ true →
     is_told c (number_failure (may_fail f)) ≡ false → A
 not_or_told c s n m a b = absurd (true≢false (sym a ∙ ap (λ z. is_told c (number_failure z)) (same_may_fail (alike_number s n m)) ∙ b))
+
+-- numbers that a loop is left with
+alike_left : {names : Names} {way other : Statement} {i : ℕ} {es fs : List TextExpression} {x y : Statement} → PairedValues es fs → SameStatement way other → AreLeft names way i es x → AreLeft names other i fs y → SameStatement x y
+alike_left no_values s none_left none_left = s
+alike_left {i = i} (more_values x k) s (next_left a n fits rest then) (next_left b m has more then) = same_sequence (same_assign refl (alike_number x n m)) (alike_left {i = i + 1} k s rest more)
+
+alike_way : {i : ℕ} {w : _} {x y : Statement} → IsThen (S.Assign i (E.Constant w)) S.Break x → IsThen (S.Assign i (E.Constant w)) S.Break y → SameStatement x y
+alike_way then then = same_sequence (same_assign refl (same_constant refl)) same_break
+
+alike_nothing : {i n : ℕ} {a b x y : Statement} → SameStatement a b → AreNothing i n a x → AreNothing i n b y → SameStatement x y
+alike_nothing s none_more none_more = s
+alike_nothing s (one_more rest) (one_more more) = alike_nothing (same_let refl (same_constant refl) s) rest more
+
+alike_search : (f : Finding) {a b c d x y v w : Statement} {p q u r : _} → SameStatement a x → SameStatement b y → SameStatement c v → IsThen a (S.If' (was_found f) p b q c) d → IsThen x (S.If' (was_found f) u y r v) w → SameStatement d w
+alike_search f s t u then then = same_sequence s (same_if (same_equal (same_value refl) (same_constant refl)) t u)
 
 -- ---- blocks
 
@@ -370,6 +398,17 @@ mutual
       visiting_of (cc) (alike_count same.3 c d)
       (alike_renewed (alike_block parts same.4 a (subst (λ z. IsBlock later readers (with_node (with_index (in_loop names) z) name) vs.items body) (sym same.1) called)) k l) v w
   alike_statement parts s (block_alone xs a) (block_alone vs b) = alike_block parts (block_of xs vs s refl refl) a b
+  alike_statement {before} {later} {readers} {names} parts s (searched turns found other ns deep room x new y z t nothing)
+      (searched turns2 found2 other2 ns2 {a = a2} {b = b2} {c = c2} {both = both2} {whole = whole2} deep2 room2 x2 new2 y2 z2 t2 nothing2) =
+      let same = search_of turns found other turns2 found2 other2 s refl refl in
+      let back = sym same.0 in
+      let turns_are : IsBlock later (searching readers (finding_at names (length ns.items))) (with_room names (length ns.items + 1)) turns2.items a2 =
+      subst (λ z. IsBlock later (searching readers (finding_at names (length z))) (with_room names (length z + 1)) turns2.items a2) back x2 in
+      let found_are : IsBlock later readers (with_variables (with_room names (length ns.items + 1)) (names.values + 1) ns.items) found2.items b2 =
+      subst (λ z. IsBlock later readers (with_variables (with_room names (length z + 1)) (names.values + 1) z) found2.items b2) back y2 in
+      let other_are : IsBlock later readers (with_room names (length ns.items + 1)) other2.items c2 = subst (λ z. IsBlock later readers (with_room names (length z + 1)) other2.items c2) back z2 in
+      let nothing_is : AreNothing names.values (length ns.items + 1) both2 whole2 = subst (λ z. AreNothing names.values (length z + 1) both2 whole2) back nothing2 in
+      alike_nothing (alike_search (finding_at names (length ns.items)) (alike_block parts same.1 x turns_are) (alike_block parts same.2 y found_are) (alike_block parts same.3 z other_are) t t2) nothing nothing_is
   alike_statement parts s x y = absurd (omega (arith, same_statement_rank s))
 
   alike_acted : {before later : List Declaration} {readers : Readers} {names : Names} {a b : Action} {x y : Statement} → AlikeBefore before later → AlikeAction a b → IsActed before readers names a x → IsActed later readers names b y →
@@ -384,11 +423,17 @@ mutual
       let index : k ≡ l = cc in
       let there : slice_get later k ≡ Some (D.Part q) = subst (λ z. slice_get later z ≡ Some (D.Part q)) (sym index) f in
       let part : AlikePart p q = parts k p q e there (record { name = refl; parameters = refl; body = given_itself g; size = refl }) in
-      let first : IsGiven (take k later) readers names (inside k names) q.parameters.items bs.items q.body.items y =
-      subst (λ z. IsGiven (take z later) readers names (inside z names) q.parameters.items bs.items q.body.items y) (sym index) h in
-      let second : IsGiven (take k later) readers names (inside k names) p.parameters.items bs.items q.body.items y =
-      subst (λ z. IsGiven (take k later) readers names (inside k names) z bs.items q.body.items y) (sym part.parameters) first in
+      let first : IsGiven (take k later) (in_part readers) names (inside k names) q.parameters.items bs.items q.body.items y =
+      subst (λ z. IsGiven (take z later) (in_part readers) names (inside z names) q.parameters.items bs.items q.body.items y) (sym index) h in
+      let second : IsGiven (take k later) (in_part readers) names (inside k names) p.parameters.items bs.items q.body.items y =
+      subst (λ z. IsGiven (take k later) (in_part readers) names (inside k names) z bs.items q.body.items y) (sym part.parameters) first in
       alike_given (taken_alike before later k parts) (paired_values same.1) part.body g second
+  alike_acted {readers = readers} {names = names} {x = x} {y = y} parts s (breaks_with {f = f} {way = way} e d n t a) (breaks_with {values = bs} {f = g} {way = way2} e2 d2 n2 t2 a2) =
+      let both = sym e ∙ e2 in
+      let same : f ≡ g = cc in
+      let way_is : IsThen (S.Assign f.flag (E.Constant (pos 1))) S.Break way2 = subst (λ (z : Finding). IsThen (S.Assign z.flag (E.Constant (pos 1))) S.Break way2) (sym same) t2 in
+      let left_is : AreLeft names way2 (f.flag + 1) bs.items y = subst (λ (z : Finding). AreLeft names way2 (z.flag + 1) bs.items y) (sym same) a2 in
+      alike_left (paired_values (break_of s)) (alike_way t way_is) a left_is
   alike_acted parts s x y = absurd (omega (arith, same_special s, acted_is x, acted_is y))
 
   alike_given : {before later : List Declaration} {readers : Readers} {outer names : Names} {ps : List Parameter} {args bs : List TextExpression} {body other : List TextStatement} {a b : Statement} → AlikeBefore before later →

@@ -17,6 +17,7 @@ use Rattle.tl_lowering.specs.declared.program.Procedure.{Procedure}
 use Rattle.tl_lowering.specs.declared.program.Statement.{Statement}
 use Rattle.tl_lowering.specs.Alike.{SameStatement, same_skip, same_let, same_constant, SameProcedure, SameProcedures, no_procedures, more_procedures}
 use Rattle.tl_lowering.specs.Names.{Names, with_constant, with_field, with_procedure, with_values, without_meaning}
+use Rattle.tl_lowering.specs.Failing.{nothing_read}
 use Rattle.tl_lowering.specs.Reading.{IsBlock, readers_in, names_in_body, names_in_else, IsCaught, unnamed, named, IsBody, IsProcedure, IsProgram, IsWithField, AreDeclared, none_declared, next_field, next_constant, next_procedure, next_part}
 use Rattle.tl_lowering.proofs.AlikeLemmas.{alike_constant}
 use Rattle.tl_lowering.proofs.AlikeBlocks.{block_itself, alike_block, AlikeBefore, tried_of}
@@ -46,8 +47,8 @@ alike_body : {before later : List Declaration} {names : Names} {text other : Tex
 alike_body {later = later} {names} {text} {other} parts s g h =
     let body : IsBlock later (readers_in names text.why) (names_in_body names text.why) other.body.items h.body =
     subst (λ z. IsBlock later (readers_in names z) (names_in_body names z) other.body.items h.body) (sym s.why) h.body_is in
-    let handler : IsBlock later (record { code = None }) (names_in_else names text.why) other.otherwise.items h.handler =
-    subst (λ z. IsBlock later (record { code = None }) (names_in_else names z) other.otherwise.items h.handler) (sym s.why) h.handler_is in
+    let handler : IsBlock later nothing_read (names_in_else names text.why) other.otherwise.items h.handler =
+    subst (λ z. IsBlock later nothing_read (names_in_else names z) other.otherwise.items h.handler) (sym s.why) h.handler_is in
     let handled : IsCaught names h.body h.handler text.why h.handled = subst (λ z. IsCaught names h.body h.handler z h.handled) (sym s.why) h.handled_is in
     tried_of (caught_of (alike_block parts s.body g.body_is body) (alike_block parts s.otherwise g.handler_is handler) g.handled_is handled) same_skip g.whole_is h.whole_is
 

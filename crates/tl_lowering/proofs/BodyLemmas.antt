@@ -19,6 +19,7 @@ use Rattle.tl_lowering.specs.declared.program.Statement.{Statement}
 use Rattle.tl_lowering.specs.declared.program.Statement.TheVariants as S
 use Rattle.tl_lowering.specs.Atomic.{IsAtomic}
 use Rattle.tl_lowering.specs.Blocks.{then_of, Standing, AreFree}
+use Rattle.tl_lowering.specs.Failing.{nothing_read, reading}
 use Rattle.tl_lowering.specs.Drafts.{IsHandled, IsHeard, Binds, binds_value}
 use Rattle.tl_lowering.specs.Names.{Names, IsNew, HasValue, with_unnamed}
 use Rattle.tl_lowering.specs.Reading.{IsTried, tried, IsBlock, IsBody, IsCaught, unnamed, named}
@@ -170,8 +171,8 @@ whole_handled tried = refl
 
 -- ---- the body of a procedure
 
-unnamed_body : {before : List Declaration} {names : Names} (text : TextProcedure) {body handler handled whole : Statement} → text.why ≡ None → IsBlock before (record { code = None }) names text.body.items body
-    → IsBlock before (record { code = None }) names text.otherwise.items handler → IsTried body handler handled → IsTried handled S.Skip whole → (text.is_atomic ≡ true → IsAtomic body) → (text.is_atomic ≡ true → IsAtomic handled)
+unnamed_body : {before : List Declaration} {names : Names} (text : TextProcedure) {body handler handled whole : Statement} → text.why ≡ None → IsBlock before nothing_read names text.body.items body
+    → IsBlock before nothing_read names text.otherwise.items handler → IsTried body handler handled → IsTried handled S.Skip whole → (text.is_atomic ≡ true → IsAtomic body) → (text.is_atomic ≡ true → IsAtomic handled)
     → IsBody before names text whole
 unnamed_body text {body} {handler} {handled} e b h t w atomic other = record {
   body = body;
@@ -190,7 +191,7 @@ caught_of : {names : Names} {why : Name} {body handler attempt whole : Statement
 caught_of t binds_value = named t
 
 heard_body : {before : List Declaration} {names : Names} {why : Name} (text : TextProcedure) {body handled whole : Statement} → text.why ≡ Some why → IsNew names why → HasValue names
-    → IsBlock before (record { code = Some names.values }) (with_unnamed names) text.body.items body → IsHeard before (record { code = None }) names why body text.otherwise.items handled → IsTried handled S.Skip whole
+    → IsBlock before (reading nothing_read names.values) (with_unnamed names) text.body.items body → IsHeard before nothing_read names why body text.otherwise.items handled → IsTried handled S.Skip whole
     → (text.is_atomic ≡ true → IsAtomic body) → (text.is_atomic ≡ true → IsAtomic handled) → IsBody before names text whole
 heard_body {why = why} text {body} {handled} e new room b h w atomic other = record {
   body = body;
@@ -207,16 +208,16 @@ heard_body {why = why} text {body} {handled} e new room b h w atomic other = rec
 
 -- one whose `else` doesn't name the code
 pub plain_body : {before : List Declaration} {names here : Names} (text : TextProcedure) {body handled whole : Statement} {block handler : List TextStatement} → text.why ≡ None → here ≡ names → block ≡ text.body.items
-    → handler ≡ text.otherwise.items → IsBlock before (record { code = None }) names block body → IsHandled before (record { code = None }) here body handler handled → IsTried handled S.Skip whole
+    → handler ≡ text.otherwise.items → IsBlock before nothing_read names block body → IsHandled before nothing_read here body handler handled → IsTried handled S.Skip whole
     → (text.is_atomic ≡ true → IsAtomic body) → (text.is_atomic ≡ true → IsAtomic handled) → IsBody before names text whole
 plain_body {before} {names} {here} text {body} e l f g b h w atomic other =
-    unnamed_body text e (subst (λ z. IsBlock before (record { code = None }) names z body) f b)
-    (subst (λ n. IsBlock before (record { code = None }) n text.otherwise.items h.other) l (subst (λ z. IsBlock before (record { code = None }) here z h.other) g h.block)) h.tried w atomic other
+    unnamed_body text e (subst (λ z. IsBlock before nothing_read names z body) f b)
+    (subst (λ n. IsBlock before nothing_read n text.otherwise.items h.other) l (subst (λ z. IsBlock before nothing_read here z h.other) g h.block)) h.tried w atomic other
 
 -- one whose `else` does
 pub told_body : {before : List Declaration} {names here : Names} {why : Name} (text : TextProcedure) {body handled whole : Statement} {block handler : List TextStatement} → text.why ≡ Some why → here ≡ names → block ≡ text.body.items
-    → handler ≡ text.otherwise.items → IsNew names why → HasValue names → IsBlock before (record { code = Some names.values }) (with_unnamed names) block body
-    → IsHeard before (record { code = None }) here why body handler handled → IsTried handled S.Skip whole → (text.is_atomic ≡ true → IsAtomic body) → (text.is_atomic ≡ true → IsAtomic handled) → IsBody before names text whole
+    → handler ≡ text.otherwise.items → IsNew names why → HasValue names → IsBlock before (reading nothing_read names.values) (with_unnamed names) block body
+    → IsHeard before nothing_read here why body handler handled → IsTried handled S.Skip whole → (text.is_atomic ≡ true → IsAtomic body) → (text.is_atomic ≡ true → IsAtomic handled) → IsBody before names text whole
 told_body {before} {names} {here} {why} text {body} {handled} e l f g new room b h w atomic other =
-    heard_body text e new room (subst (λ z. IsBlock before (record { code = Some names.values }) (with_unnamed names) z body) f b)
-    (subst (λ n. IsHeard before (record { code = None }) n why body text.otherwise.items handled) l (subst (λ z. IsHeard before (record { code = None }) here why body z handled) g h)) w atomic other
+    heard_body text e new room (subst (λ z. IsBlock before (reading nothing_read names.values) (with_unnamed names) z body) f b)
+    (subst (λ n. IsHeard before nothing_read n why body text.otherwise.items handled) l (subst (λ z. IsHeard before nothing_read here why body z handled) g h)) w atomic other

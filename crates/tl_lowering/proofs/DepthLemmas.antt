@@ -5,7 +5,7 @@ use Rattle.tl_syntax.specs.declared.parsed.Name.{Name}
 use Rattle.tl_syntax.specs.declared.parsed.Expression.{Expression}
 use Rattle.tl_syntax.specs.declared.parsed.Question.{Question}
 use Rattle.tl_syntax.specs.declared.parsed.Statement.{Statement}
-use Rattle.tl_syntax.specs.declared.parsed.StatementForm.{StatementForm, Act, Try, If, Repeat, ForEach, Block, the_lemmas}
+use Rattle.tl_syntax.specs.declared.parsed.StatementForm.{StatementForm, Act, Try, If, Repeat, ForEach, Block, Search, the_lemmas}
 use Rattle.tl_syntax.specs.declared.parsed.Action.{Action}
 use Rattle.tl_syntax.specs.declared.parsed.Otherwise.{Otherwise, out-Otherwise, the_lemmas as otherwise_lemmas}
 use Rattle.tl_syntax.specs.declared.parsed.Parameter.{Parameter}
@@ -43,6 +43,15 @@ in_visit f child index parent at_most body e = grind (arith, the_lemmas)
 in_block : (f : StatementForm) (body : Vec Statement Global) → f ≡ Block body → most statement.the_size body.items < form.the_size f
 in_block f body e = grind (arith, the_lemmas)
 
+in_turns : (f : StatementForm) (turns : Vec Statement Global) (names : Vec Name Global) (found otherwise : Vec Statement Global) → f ≡ Search turns names found otherwise → most statement.the_size turns.items < form.the_size f
+in_turns f turns names found otherwise e = grind (arith, the_lemmas)
+
+in_found : (f : StatementForm) (turns : Vec Statement Global) (names : Vec Name Global) (found otherwise : Vec Statement Global) → f ≡ Search turns names found otherwise → most statement.the_size found.items < form.the_size f
+in_found f turns names found otherwise e = grind (arith, the_lemmas)
+
+in_not_found : (f : StatementForm) (turns : Vec Statement Global) (names : Vec Name Global) (found otherwise : Vec Statement Global) → f ≡ Search turns names found otherwise → most statement.the_size otherwise.items < form.the_size f
+in_not_found f turns names found otherwise e = grind (arith, the_lemmas)
+
 -- ---- the measure
 
 -- what reading the body of a part takes at most, without the parts that it uses
@@ -75,11 +84,9 @@ pub falls_in_tried : (t w : ℕ) (f : StatementForm) (why : Option Name) (body h
     → 4 * max (most statement.the_size first) (most statement.the_size second) + 4 + w < t
 falls_in_tried t w f why body handler first second e is same at = rw (is, same) (let one = in_try f why body handler at in let two = in_handler f why body handler at in omega arith)
 
-pub falls_in_first : (t k w : ℕ) (f : StatementForm) (q : Question) (body otherwise : Vec Statement Global) (block : List Statement) → 4 * form.the_size f + 3 + w ≡ t → block ≡ body.items → k < 4 → f ≡ If q body otherwise → 4 * most statement.the_size block + k + w < t
-falls_in_first t k w f q body otherwise block e is few at = falls t k w f block body.items e is few (in_first f q body otherwise at)
-
-pub falls_in_second : (t k w : ℕ) (f : StatementForm) (q : Question) (body otherwise : Vec Statement Global) (block : List Statement) → 4 * form.the_size f + 3 + w ≡ t → block ≡ otherwise.items → k < 4 → f ≡ If q body otherwise → 4 * most statement.the_size block + k + w < t
-falls_in_second t k w f q body otherwise block e is few at = falls t k w f block otherwise.items e is few (in_second f q body otherwise at)
+pub falls_in_if : (t w : ℕ) (f : StatementForm) (q : Question) (body otherwise : Vec Statement Global) (first second : List Statement) → 4 * form.the_size f + 3 + w ≡ t → first ≡ body.items → second ≡ otherwise.items → f ≡ If q body otherwise
+    → 4 * max (most statement.the_size first) (most statement.the_size second) + 3 + w < t
+falls_in_if t w f q body otherwise first second e is same at = rw (is, same) (let one = in_first f q body otherwise at in let two = in_second f q body otherwise at in omega arith)
 
 pub falls_in_repeat : (t k w : ℕ) (f : StatementForm) (turns : Expression) (at_most : Option Expression) (body : Vec Statement Global) (block : List Statement) → 4 * form.the_size f + 3 + w ≡ t → block ≡ body.items → k < 4 → f ≡ Repeat turns at_most body
     → 4 * most statement.the_size block + k + w < t
@@ -91,6 +98,11 @@ falls_in_visit t k w f child index parent at_most body block e is few at = falls
 
 pub falls_in_block : (t k w : ℕ) (f : StatementForm) (body : Vec Statement Global) (block : List Statement) → 4 * form.the_size f + 3 + w ≡ t → block ≡ body.items → k < 4 → f ≡ Block body → 4 * most statement.the_size block + k + w < t
 falls_in_block t k w f body block e is few at = falls t k w f block body.items e is few (in_block f body at)
+
+pub falls_in_search : (t w : ℕ) (f : StatementForm) (turns : Vec Statement Global) (names : Vec Name Global) (found otherwise : Vec Statement Global) (one two three : List Statement) → 4 * form.the_size f + 3 + w ≡ t → one ≡ turns.items → two ≡ found.items
+    → three ≡ otherwise.items → f ≡ Search turns names found otherwise → 4 * max (most statement.the_size one) (max (most statement.the_size two) (most statement.the_size three)) + 4 + w < t
+falls_in_search t w f turns names found otherwise one two three e is same again at =
+    rw (is, same, again) (let a = in_turns f turns names found otherwise at in let b = in_found f turns names found otherwise at in let c = in_not_found f turns names found otherwise at in omega arith)
 
 -- a part has a smaller measure than its use
 pub falls_in_part : (t : ℕ) (ds earlier : List Declaration) (k : ℕ) (p : Part) (body : List Statement) (ps : List Parameter) → weight ds + 1 ≡ t → slice_get ds k ≡ Some (D.Part p) → earlier ≡ take k ds → body ≡ p.body.items

@@ -17,7 +17,7 @@ use Rattle.tl_lowering.specs.Sound.{IsWellFormed}
 use Rattle.tl_lowering.proofs.BlockLemmas.{alike_is, close_last, closed_paths}
 use Rattle.tl_lowering.proofs.PathLemmas.{then_on, then_same, then_assoc, outcomes_append, sound_append}
 
-then_at : (q : Paths) (f : Nodes → Paths) (h : Nodes) → q.after ≡ Some h → then_of q f ≡ then_of q (λ k. f h)
+pub then_at : (q : Paths) (f : Nodes → Paths) (h : Nodes) → q.after ≡ Some h → then_of q f ≡ then_of q (λ k. f h)
 then_at q f h e = by q.after q.fails q.breaks e
   where
     by : (o x y : Option Nodes) → o ≡ Some h → then_of (record { after = o; fails = x; breaks = y }) f ≡ then_of (record { after = o; fails = x; breaks = y }) (λ k. f h)

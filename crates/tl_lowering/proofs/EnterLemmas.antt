@@ -96,7 +96,7 @@ next_same x f g e = by x.after x.fails x.breaks
     by None u v = refl
     by (Some k) u v = ap (λ (p : Entered). record { after = p.after; fails = or_of u p.fails; breaks = or_of v p.breaks }) (e k)
 
-next_at : (x : Entered) (f : Before → Entered) (h : Before) → x.after ≡ Some h → then_by x.after x f ≡ then_by x.after x (λ k. f h)
+pub next_at : (x : Entered) (f : Before → Entered) (h : Before) → x.after ≡ Some h → then_by x.after x f ≡ then_by x.after x (λ k. f h)
 next_at x f h e = by x.after x.fails x.breaks e
   where
     by : (o u v : Option Before) → o ≡ Some h → then_by o (record { after = o; fails = u; breaks = v }) f ≡ then_by o (record { after = o; fails = u; breaks = v }) (λ k. f h)

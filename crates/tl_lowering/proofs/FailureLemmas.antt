@@ -12,7 +12,8 @@ use Rattle.tl_lowering.specs.declared.program.Condition.{Condition}
 use Rattle.tl_lowering.specs.declared.program.Expression.{Expression}
 use Rattle.tl_lowering.specs.declared.program.Statement.{Statement}
 use Rattle.tl_lowering.specs.Alike.{SameNumber, same_constant, same_value, same_field, same_children, same_operation, SameCondition, same_less, same_greater, same_equal, same_not, same_and, SamePlace, same_node, same_child, same_pair, SameStatement, same_skip, same_sequence, same_assign, same_write, same_emit, same_free, same_descend, same_take, same_break, same_return, same_fail, same_if, same_let, same_let_else, same_lock, same_try, same_repeat, same_repeat_up_to, same_at}
-use Rattle.tl_lowering.specs.Failing.{Readers, number_failure, place_failure, failure_at, IsFailure, bare, coded, IsMarked, not_read, sure, marked, IsRenewed, not_renewed, renewed}
+use Rattle.tl_lowering.specs.declared.readers.Readers.{Readers}
+use Rattle.tl_lowering.specs.Failing.{number_failure, place_failure, failure_at, IsFailure, bare, coded, IsMarked, not_read, sure, marked, IsRenewed, not_renewed, renewed}
 use Rattle.tl_lowering.specs.Names.{Names}
 use Rattle.tl_lowering.specs.Naming.{then}
 use Rattle.tl_lowering.specs.Outcomes.{may_fail, condition_may_fail}

@@ -1,5 +1,5 @@
 -- What is read uses only registers that exist, and its loops have positive counts and don't nest too deep.
-use Rattle.std.proofs.Common.{◌≡◌, ℕ, ℤ, ◌+◌, ◌/◌, ◌<◌, ◌≤◌, List, [], ◌∷◌, length, Option, None, Some, refl, sym, subst, arith}
+use Rattle.std.proofs.Common.{◌≡◌, ℕ, suc, ℤ, ◌+◌, ◌/◌, ◌<◌, ◌≤◌, List, [], ◌∷◌, length, Option, None, Some, refl, sym, subst, arith}
 use Rattle.std.specs.Prelude.{max, nat_lt, false}
 use Rattle.std.specs.List.{All}
 use Rattle.std.proofs.lemmas.List.Elements.{All-nil, All-cons, All-head, All-push, All-take, All-drop}
@@ -26,14 +26,16 @@ use Rattle.tl_lowering.specs.declared.program.Procedure.{Procedure}
 use Rattle.tl_lowering.specs.declared.program.Statement.{Statement}
 use Rattle.tl_lowering.specs.declared.program.Statement.TheVariants as S
 use Rattle.tl_lowering.specs.Fit.{loops, AllTurn, AllSlots, HasBoth, IsWord, HasConditionRoom, HasRoom}
-use Rattle.tl_lowering.specs.Failing.{Readers, IsFailure, bare, coded, IsMarked, not_read, sure, marked, IsRenewed, not_renewed, renewed}
+use Rattle.tl_lowering.specs.declared.readers.Finding.{Finding}
+use Rattle.tl_lowering.specs.declared.readers.Readers.{Readers}
+use Rattle.tl_lowering.specs.Failing.{IsFailure, bare, coded, IsMarked, not_read, sure, marked, IsRenewed, not_renewed, renewed}
 use Rattle.tl_lowering.specs.Registers.{HasTemporaries}
 use Rattle.tl_lowering.specs.declared.program.Expression.TheVariants as E
-use Rattle.tl_lowering.specs.Names.{Names, names_in, HasNode, in_loop, with_node, with_index, with_value, with_alias, with_variable, with_place}
-use Rattle.tl_lowering.specs.Naming.{IsCount, count, IsPlace, node, child, pair, calculated, opposite, together, IsComparison, IsCondition, comparison, negation, conjunction, disjunction, then, IsHalved, none, one, more, AreEmits, no_emits, next_emit, AreWritten, all_computed, next_computed, IsWritten, one_write, several_writes, IsAction, assigns, writes, emits, descends, takes, frees, breaks, returns}
+use Rattle.tl_lowering.specs.Names.{Names, names_in, HasNode, in_loop, with_node, with_index, with_value, with_alias, with_variable, with_room, with_variables, with_place}
+use Rattle.tl_lowering.specs.Naming.{IsCount, count, IsPlace, node, child, pair, calculated, opposite, together, IsThen, IsComparison, IsCondition, comparison, negation, conjunction, disjunction, then, IsHalved, none, one, more, AreEmits, no_emits, next_emit, AreWritten, all_computed, next_computed, IsWritten, one_write, several_writes, IsAction, assigns, writes, emits, descends, takes, frees, breaks, returns}
 use Rattle.tl_lowering.specs.Outcomes.{fails as failures}
 use Rattle.tl_lowering.specs.Passing.{nothing_before, EntersOnce}
-use Rattle.tl_lowering.specs.Reading.{IsAtOffset, at, IsTried, tried, IsVisiting, visiting, IsBlock, block, AreStatements, no_more, next, let_rest, let_told, let_else, lock_rest, lock_else, IsStatement, IsActed, plain, requires, fails, fails_with, used, IsReason, no_reason, reason, IsRequired, required, names_in_body, names_in_else, IsCaught, unnamed, named, IsGiven, all_given, node_given, variable_given, value_given, act, act_else, try, try_told, if, if_lock, repeat, repeat_up_to, for_each, block_alone, IsBody}
+use Rattle.tl_lowering.specs.Reading.{IsAtOffset, at, IsTried, tried, IsVisiting, visiting, IsBlock, block, AreStatements, no_more, next, let_rest, let_told, let_else, lock_rest, lock_else, IsStatement, IsActed, plain, requires, fails, fails_with, breaks_with, used, AreLeft, none_left, next_left, AreNothing, none_more, one_more, finding_at, was_found, search as searched, IsReason, no_reason, reason, IsRequired, required, names_in_body, names_in_else, IsCaught, unnamed, named, IsGiven, all_given, node_given, variable_given, value_given, act, act_else, try, try_told, if, if_lock, repeat, repeat_up_to, for_each, block_alone, IsBody}
 use Rattle.tl_lowering.specs.Scopes.{View, is_in_loop}
 use Rattle.tl_lowering.specs.Sets.{none_held}
 use Rattle.tl_lowering.specs.Sound.{IsWellFormed, IsInOrder}
@@ -186,6 +188,36 @@ heard names {s = s} x n l v = record {
 letting : {p : _} {names : Names} {w : ℤ} {s : Statement} → Fits (record names { values = names.values + 1 }) s → Fits names (S.Let' names.values (E.Constant w) p s)
 letting {names = names} x = record { turns = x.turns; slots = x.slots; depth = x.depth; room = (short, x.room) }
 
+-- the loop is left
+left_by : {names : Names} {x : ℕ} {w : ℤ} {way : Statement} → names.loops ≤ MAX_DEPTH → IsThen (S.Assign x (E.Constant w)) S.Break way → Fits names way
+left_by le then = record { turns = (tt, tt); slots = (tt, tt); depth = omega arith; room = (short, tt) }
+
+after_loop : {names : Names} {a b whole : Statement} → Fits names a → Fits names b → IsThen a b whole → Fits names whole
+after_loop x y then = two x y
+
+-- whether it was is tested in one register more
+found_fits : (f : Finding) (d : ℕ) → d + 1 ≤ VALUE_REGISTERS → HasConditionRoom (was_found f) d
+found_fits f d le = (omega (arith, le), omega (arith, le))
+
+-- numbers that a loop is left with
+left : {names : Names} {way whole : Statement} {x : ℕ} {es : List TextExpression} → AreLeft names way x es whole → Fits names way → Fits names whole
+left none_left y = y
+left (next_left a n fits rest then) y =
+    let more = left rest y in
+    record { turns = (tt, more.turns); slots = (tt, more.slots); depth = omega (arith, more.depth); room = (fits, more.room) }
+
+-- values that are 0 before a statement
+zeros : (names : Names) {n : ℕ} {a whole : Statement} → AreNothing names.values n a whole → Fits (with_room names n) a → Fits names whole
+zeros names (none_more {a = a}) y = let same : names.values + 0 ≡ names.values = omega arith in record { turns = y.turns; slots = y.slots; depth = y.depth; room = subst (HasRoom a) same y.room }
+zeros names (one_more {n = n} {a = a} rest) y =
+    let same : names.values + suc n ≡ names.values + n + 1 = omega arith in
+    zeros names rest (record { turns = y.turns; slots = y.slots; depth = y.depth; room = (short, subst (HasRoom a) same y.room) })
+
+-- values get names
+named_values : (names : Names) (x : ℕ) (ns : List Name) → (with_variables names x ns).loops ≡ names.loops × (with_variables names x ns).values ≡ names.values × (with_variables names x ns).nodes ≡ names.nodes
+named_values names x [] = (refl, refl, refl)
+named_values names x (n ∷ ns) = named_values (with_variable names n x) (x + 1) ns
+
 mutual
   in_block : {before : List Declaration} {readers : Readers} {names : Names} {xs : List TextStatement} {s : Statement} → names.loops ≤ MAX_DEPTH → IsBlock before readers names xs s → Fits names s
   in_block le (block are j) = halved le j (in_statements le are)
@@ -222,12 +254,24 @@ mutual
       record { turns = (may_turn c, x.turns); slots = x.slots; depth = omega (arith, x.depth); room = (has, turn, x.room) }
   in_statement le (for_each {child = called} {index = index} xs deep new room has e c a r v) = walk called index room has (may_turn c) (renewing r (in_block (omega (arith, deep)) a)) v
   in_statement le (block_alone xs a) = in_block le a
+  in_statement {before} {readers} {names} le (searched turns found other ns {a = a} {b = b} deep room x new y z then nothing) =
+      let inner = with_room names (length ns.items + 1) in
+      let same = named_values inner (names.values + 1) ns.items in
+      let first = in_block (subst (λ n. n ≤ MAX_DEPTH) (sym same.0) le) y in
+      let here : Fits inner b = record {
+        turns = first.turns;
+        slots = subst (AllSlots b) same.2 first.slots;
+        depth = omega (arith, first.depth, same.0);
+        room = subst (HasRoom b) same.1 first.room;
+      } in
+      zeros names nothing (after_loop (in_block le x) (choice (found_fits (finding_at names (length ns.items)) inner.values room) here (in_block le z)) then)
 
   in_acted : {before : List Declaration} {readers : Readers} {names : Names} {a : Action} {s : Statement} → names.loops ≤ MAX_DEPTH → IsActed before readers names a s → Fits names s
   in_acted le (plain a) = action le a
   in_acted le (requires r) = requiring le r
   in_acted {names = names} le (fails f) = failing {names = names} le f short
   in_acted le (fails_with c f) = failing le f c.fits
+  in_acted le (breaks_with e d n then all) = left all (left_by le then)
   in_acted le (used arguments index part given nests) =
       let x = in_given (omega arith) given in record { turns = x.turns; slots = x.slots; depth = omega (arith, nests); room = x.room }
 

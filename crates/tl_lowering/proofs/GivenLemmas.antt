@@ -21,7 +21,7 @@ use Rattle.tl_lowering.specs.declared.scope.Meaning.TheVariants as M
 use Rattle.tl_lowering.specs.Drafts.{Binds, binds_value}
 use Rattle.tl_lowering.specs.Entering.{before_of}
 use Rattle.tl_lowering.specs.Giving.{IsNodeGiven, IsVariableGiven, IsValueGiven}
-use Rattle.tl_lowering.specs.Failing.{Readers}
+use Rattle.tl_lowering.specs.declared.readers.Readers.{Readers}
 use Rattle.tl_lowering.specs.Names.{Names}
 use Rattle.tl_lowering.specs.Reading.{IsBlock, IsGiven, all_given, node_given, variable_given, value_given}
 use Rattle.tl_lowering.specs.Outcomes.{locked, nodes_behind, handled_by, after, fails}

@@ -10,6 +10,7 @@ pub mod DraftLemmas
 pub mod EnterLemmas
 pub mod FailureLemmas
 pub mod FitLemmas
+pub mod FoundLemmas
 pub mod GivenLemmas
 pub mod JoinLemmas
 pub mod LeaveLemmas

@@ -15,7 +15,8 @@ use Rattle.tl_syntax.specs.declared.parsed.Expression.{Expression as TextExpress
 use Rattle.tl_syntax.specs.declared.parsed.Form.{Form}
 use Rattle.tl_lowering.specs.Entering.{entered_of, IsEntering}
 use Rattle.tl_lowering.specs.Choosing.{IsKept}
-use Rattle.tl_lowering.specs.Failing.{Readers, is_told, IsFailure, bare, coded, IsRenewed, not_renewed}
+use Rattle.tl_lowering.specs.declared.readers.Readers.{Readers}
+use Rattle.tl_lowering.specs.Failing.{is_told, IsFailure, bare, coded, IsRenewed, not_renewed}
 use Rattle.tl_lowering.specs.Lowering.{IsRefusal}
 use Rattle.tl_lowering.specs.Names.{Names}
 use Rattle.tl_lowering.specs.Naming.{IsCondition, IsThen, then}
@@ -110,10 +111,10 @@ pub untold_where_sure : (c : Option ℕ) {o : Option Failure} → o ≡ None →
 untold_where_sure None g = refl
 untold_where_sure (Some r) g = ap is_some g
 
-pub not_kept : {c : Option ℕ} (r : Repetition) (a : Statement) → c ≡ None → IsKept (record { code = c }) r a a
-not_kept (R.Times w) a e = refl
-not_kept (R.UpTo n w) a e = refl
-not_kept (R.Children v) a e = subst (λ z. IsRenewed z a a) (sym e) not_renewed
+pub not_kept : (readers : Readers) (r : Repetition) (a : Statement) → readers.code ≡ None → IsKept readers r a a
+not_kept readers (R.Times w) a e = refl
+not_kept readers (R.UpTo n w) a e = refl
+not_kept readers (R.Children v) a e = subst (λ z. IsRenewed z a a) (sym e) not_renewed
 
 -- ---- a condition that is required
 

@@ -27,7 +27,8 @@ use Rattle.tl_lowering.specs.Drafts.{IsOpening, opening_value, opening_nodes, Is
 use Rattle.tl_syntax.specs.Codes.{code_of}
 use Rattle.tl_syntax.specs.declared.failure.Failure.{Failure}
 use Rattle.tl_syntax.specs.declared.failure.Failure.TheVariants as F
-use Rattle.tl_lowering.specs.Failing.{Readers, number_failure, place_failure, is_told, IsFailure, bare}
+use Rattle.tl_lowering.specs.declared.readers.Readers.{Readers}
+use Rattle.tl_lowering.specs.Failing.{number_failure, place_failure, is_told, IsFailure, bare}
 use Rattle.tl_lowering.specs.Outcomes.{may_fail}
 use Rattle.tl_lowering.specs.Choosing.{IsChosen, chosen_if, chosen_lock, IsTurning, turning_times, turning_up_to}
 use Rattle.tl_lowering.proofs.JoinLemmas.{same_else}

@@ -34,13 +34,16 @@ use Rattle.tl_lowering.specs.declared.loops.Visit.{Visit}
 use Rattle.tl_lowering.specs.declared.program.Expression.{Expression}
 use Rattle.tl_lowering.specs.declared.scope.Meaning.TheVariants as M
 use Rattle.tl_lowering.specs.Registers.{behind, HasRegisters}
-use Rattle.tl_lowering.specs.Failing.{Readers, unread, reading, is_told, IsMarked, IsRenewed}
-use Rattle.tl_lowering.specs.Names.{Names, stands_for, IsNew, HasValue, AreFresh, HasNode, HasLoop, in_loop, with_node, with_index, with_unnamed, with_value}
-use Rattle.tl_lowering.specs.Naming.{IsNumber, IsCount, declares, is_plain}
-use Rattle.tl_lowering.specs.Reading.{IsTried, Leaves, IsVisiting, IsAtOffset, IsBlock, block, AreStatements, no_more, next, IsStatement, IsActed, used, act_else, try, try_told, if, if_lock, repeat, repeat_up_to, for_each}
+use Rattle.tl_lowering.specs.declared.lowering.Entrance.TheVariants as N
+use Rattle.tl_lowering.specs.declared.readers.Finding.{Finding}
+use Rattle.tl_lowering.specs.declared.readers.Readers.{Readers}
+use Rattle.tl_lowering.specs.Failing.{unread, reading, searching, is_told, IsMarked, IsRenewed}
+use Rattle.tl_lowering.specs.Names.{Names, stands_for, IsNew, HasValue, with_room, with_variables, AreFound, AreFresh, HasNode, HasLoop, in_loop, with_node, with_index, with_unnamed, with_value}
+use Rattle.tl_lowering.specs.Naming.{IsNumber, IsCount, IsThen, declares, is_plain}
+use Rattle.tl_lowering.specs.Reading.{IsTried, Leaves, IsVisiting, IsAtOffset, IsBlock, block, AreStatements, no_more, next, IsStatement, IsActed, used, act_else, try, try_told, if, if_lock, repeat, repeat_up_to, for_each, AreNothing, finding_at, was_found, search as searched}
 use Rattle.tl_lowering.specs.Paths.{known}
 use Rattle.tl_lowering.specs.Drafts.{MayFollow, IsOpening, opening_value, opening_nodes, head_failure, IsMissing, IsElse, no_else, missing_else, IsElseOf, Opens, Ends, none_open, last_open, Becomes, IsFinished, IsExtended, IsHandled, IsHeard, IsUsed, Binds, binds_value}
-use Rattle.tl_lowering.specs.Choosing.{IsEntered, enters_condition, enters_lock, names_behind, IsChosen, chosen_if, chosen_lock, IsRepeated, repeated_times, repeated_up_to, IsVisited, visited, names_within, IsLoop, IsTurning, turning_times, turning_up_to, turning_children}
+use Rattle.tl_lowering.specs.Choosing.{IsEntered, enters_condition, enters_lock, names_behind, IsChosen, chosen_if, chosen_lock, IsRepeated, repeated_times, repeated_up_to, IsVisited, visited, names_within, IsLoop, IsSearch, IsTurning, turning_times, turning_up_to, turning_children}
 use Rattle.tl_lowering.proofs.OpeningLemmas.{opens_rest}
 
 -- ---- a block
@@ -195,6 +198,29 @@ missing_named before readers names head action (Ok (Some (a, flow))) f none told
 pub loop_at : {before : List Declaration} {readers : Readers} {names : Names} {r : Repetition} {xs ys : List TextStatement} {whole : Statement} → xs ≡ ys → IsLoop before readers names r xs whole → IsLoop before readers names r ys whole
 loop_at {before} {readers} {names} {r} {whole = whole} e = subst (λ z. IsLoop before readers names r z whole) e
 
+-- ---- a loop that may be left with numbers
+
+searched_of : {before : List Declaration} {readers : Readers} {names : Names} (turns found other : Vec TextStatement Global) (ns : Vec Name Global) {a b c choice both whole : Statement} → HasLoop names
+    → names.values + (length ns.items + 1) + 1 ≤ VALUE_REGISTERS → IsBlock before (searching readers (finding_at names (length ns.items))) (with_room names (length ns.items + 1)) turns.items a
+    → AreFound (with_room names (length ns.items + 1)) (names.values + 1) ns.items → IsBlock before readers (with_variables (with_room names (length ns.items + 1)) (names.values + 1) ns.items) found.items b
+    → IsBlock before readers (with_room names (length ns.items + 1)) other.items c → IsChosen b c (N.Condition (was_found (finding_at names (length ns.items)))) choice → IsThen a choice both
+    → AreNothing names.values (length ns.items + 1) both whole → IsStatement before readers names (T.Search turns ns found other) whole
+searched_of turns found other ns deep room x new y z chosen_if then nothing = searched turns found other ns deep room x new y z then nothing
+
+searched_in : {before : List Declaration} {readers : Readers} {names : Names} (turns found other : Vec TextStatement Global) (ns : Vec Name Global) {whole : Statement}
+    → IsSearch before readers names turns.items ns.items found.items other.items whole → IsStatement before readers names (T.Search turns ns found other) whole
+searched_in turns found other ns h =
+    let s = h.searched_is in searched_of turns found other ns h.deep s.room s.turned_is s.fresh s.first_is s.second_is s.choice_is s.whole_is h.whole_is
+
+pub searched_statement : {before : List Declaration} {readers : Readers} {names : Names} (turns found other : Vec TextStatement Global) (ns : Vec Name Global) {xs ys zs : List TextStatement} {ms : List Name} {whole : Statement} → xs ≡ turns.items
+    → ms ≡ ns.items → ys ≡ found.items → zs ≡ other.items → IsSearch before readers names xs ms ys zs whole → IsStatement before readers names (T.Search turns ns found other) whole
+searched_statement {before} {readers} {names} turns found other ns {xs} {ys} {zs} {ms} {whole} one called two three h =
+    searched_in turns found other ns
+    (subst (λ z. IsSearch before readers names z ns.items found.items other.items whole) one
+    (subst (λ z. IsSearch before readers names xs z found.items other.items whole) called
+    (subst (λ z. IsSearch before readers names xs ms z other.items whole) two
+    (subst (λ z. IsSearch before readers names xs ms ys z whole) three h))))
+
 -- ---- a part
 
 pub used_action : {before : List Declaration} {readers : Readers} {names : Names} {name : Name} (arguments : Vec TextExpression Global) {slice : List TextExpression} {a : Statement} → slice ≡ arguments.items
@@ -203,11 +229,12 @@ used_action {before} {readers} {names} {name} arguments {a = a} e u =
     let here : IsUsed before readers names name arguments.items a = subst (λ z. IsUsed before readers names name z a) e u in used arguments here.index_is here.part_is here.given here.nests
 
 pub plain_left : (a : Action) → declares a ≡ false → ((name : Name) (arguments : Vec TextExpression Global) → a ≡ A.Use name arguments → ⊥) → ((e : TextExpression) (why : Option TextExpression) → a ≡ A.Require e why → ⊥)
-    → ((l : Leave) → a ≡ A.Leave l → ⊥) → ((e : TextExpression) → a ≡ A.Fail e → ⊥) → is_plain a ≡ true
-plain_left (A.Use name arguments) d uses required left failed = absurd (uses name arguments refl)
-plain_left (A.Require e why) d uses required left failed = absurd (required e why refl)
-plain_left (A.Leave l) d uses required left failed = absurd (left l refl)
-plain_left (A.Fail e) d uses required left failed = absurd (failed e refl)
-plain_left (A.Let name e) d uses required left failed = cc
-plain_left (A.Lock place) d uses required left failed = cc
-plain_left action d uses required left failed = refl
+    → ((l : Leave) → a ≡ A.Leave l → ⊥) → ((e : TextExpression) → a ≡ A.Fail e → ⊥) → ((values : Vec TextExpression Global) → a ≡ A.BreakWith values → ⊥) → is_plain a ≡ true
+plain_left (A.Use name arguments) d uses required left failed found = absurd (uses name arguments refl)
+plain_left (A.Require e why) d uses required left failed found = absurd (required e why refl)
+plain_left (A.Leave l) d uses required left failed found = absurd (left l refl)
+plain_left (A.Fail e) d uses required left failed found = absurd (failed e refl)
+plain_left (A.BreakWith values) d uses required left failed found = absurd (found values refl)
+plain_left (A.Let name e) d uses required left failed found = cc
+plain_left (A.Lock place) d uses required left failed found = cc
+plain_left action d uses required left failed found = refl

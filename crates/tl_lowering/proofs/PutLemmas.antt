@@ -10,7 +10,8 @@ use Rattle.tl_lowering.specs.declared.program.Expression.{Expression}
 use Rattle.tl_lowering.specs.declared.program.Statement.{Statement}
 use Rattle.tl_lowering.specs.declared.program.Statement.TheVariants as S
 use Rattle.tl_lowering.specs.Choosing.{IsKept, IsTurnBody}
-use Rattle.tl_lowering.specs.Failing.{Readers, IsRenewed, not_renewed, renewed}
+use Rattle.tl_lowering.specs.declared.readers.Readers.{Readers}
+use Rattle.tl_lowering.specs.Failing.{IsRenewed, not_renewed, renewed}
 use Rattle.tl_lowering.specs.Names.{Names}
 use Rattle.tl_lowering.specs.Naming.{then, IsHalved, none, one, more}
 use Rattle.tl_lowering.specs.Passing.{walks}

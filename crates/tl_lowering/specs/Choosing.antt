@@ -1,5 +1,7 @@
--- What an `if` tests, and what a loop repeats.
-use Rattle.std.specs.Prelude.{◌≡◌, ◌≤◌, ◌+◌, ℕ, List, Option, None, Some}
+-- What an `if` tests, what a loop repeats, and what is done behind a loop that may be left with numbers.
+use Rattle.std.specs.Prelude.{◌≡◌, ◌≤◌, ◌+◌, ℕ, List, length, Option, None, Some}
+use Rattle.std.specs.declared.alloc.Global.{Global}
+use Rattle.std.specs.declared.vec.Vec.{Vec}
 use Rattle.tl_instr.specs.declared.operand.TheConstants.{VALUE_REGISTERS}
 use Rattle.tl_syntax.specs.declared.parsed.Name.{Name}
 use Rattle.tl_syntax.specs.declared.parsed.Form.{Form}
@@ -9,6 +11,7 @@ use Rattle.tl_syntax.specs.declared.parsed.Declaration.{Declaration}
 use Rattle.tl_syntax.specs.declared.parsed.Question.{Question}
 use Rattle.tl_syntax.specs.declared.parsed.Question.TheVariants as Q
 use Rattle.tl_syntax.specs.declared.parsed.Statement.{Statement as TextStatement}
+use Rattle.tl_syntax.specs.declared.parsed.StatementForm.TheVariants as T
 use Rattle.tl_lowering.specs.declared.loops.Repetition.{Repetition}
 use Rattle.tl_lowering.specs.declared.loops.Repetition.TheVariants as R
 use Rattle.tl_lowering.specs.declared.loops.Visit.{Visit}
@@ -20,11 +23,13 @@ use Rattle.tl_lowering.specs.declared.program.Expression.{Expression}
 use Rattle.tl_lowering.specs.declared.program.Statement.{Statement}
 use Rattle.tl_lowering.specs.declared.program.Statement.TheVariants as S
 use Rattle.tl_lowering.specs.declared.scope.Meaning.TheVariants as M
-use Rattle.tl_lowering.specs.Failing.{Readers, IsRenewed}
+use Rattle.tl_lowering.specs.declared.readers.Finding.{Finding}
+use Rattle.tl_lowering.specs.declared.readers.Readers.{Readers}
+use Rattle.tl_lowering.specs.Failing.{searching, IsRenewed}
 use Rattle.tl_lowering.specs.Registers.{behind, HasRegisters}
-use Rattle.tl_lowering.specs.Names.{Names, stands_for, AreFresh, HasNode, HasLoop, in_loop, with_index, with_node}
-use Rattle.tl_lowering.specs.Naming.{IsNumber, IsCount, IsCondition, Locks, with_locking}
-use Rattle.tl_lowering.specs.Reading.{IsVisiting, IsBlock}
+use Rattle.tl_lowering.specs.Names.{Names, stands_for, AreFresh, AreFound, HasNode, HasLoop, in_loop, with_index, with_node, with_room, with_variables}
+use Rattle.tl_lowering.specs.Naming.{IsNumber, IsCount, IsCondition, IsThen, Locks, with_locking}
+use Rattle.tl_lowering.specs.Reading.{IsVisiting, IsBlock, IsStatement, AreNothing, finding_at, was_found}
 
 -- ---- a choice
 
@@ -42,6 +47,11 @@ names_behind names (E.Lock locking) = with_locking names locking
 pub data IsChosen (first second : Statement) : Entrance → Statement → Type 0 where
   chosen_if : {c : Condition} {p q : _} → IsChosen first second (E.Condition c) (S.If' c p first q second)
   chosen_lock : {locking : Locking} {p q : _} → IsChosen first second (E.Lock locking) (S.Lock' locking.place p first q second)
+
+-- an `if` with these blocks, wherever the text has them in memory
+abbrev pub IsChoice : List Declaration → Readers → Names → Question → List TextStatement → List TextStatement → Statement → Type 0
+IsChoice before readers names question body other whole =
+    (xs ys : Vec TextStatement Global) → body ≡ xs.items → other ≡ ys.items → IsStatement before readers names (T.If question xs ys) whole
 
 -- ---- a loop
 
@@ -86,3 +96,26 @@ pub record IsLoop (before : List Declaration) (readers : Readers) (names : Names
   pub body : Statement
   pub body_is : IsTurnBody before readers names repetition block body
   pub whole_is : IsTurning body repetition whole
+
+-- ---- a loop that may be left with numbers
+
+-- where they have registers
+pub record IsSearched (before : List Declaration) (readers : Readers) (names : Names) (f : Finding) (turns : List TextStatement) (ns : List Name) (found other : List TextStatement) (whole : Statement) : Type 0 where
+  pub turned : Statement
+  pub first : Statement
+  pub second : Statement
+  pub choice : Statement
+  pub room : names.values + 1 ≤ VALUE_REGISTERS
+  pub turned_is : IsBlock before (searching readers f) names turns turned
+  pub fresh : AreFound names (f.flag + 1) ns
+  pub first_is : IsBlock before readers (with_variables names (f.flag + 1) ns) found first
+  pub second_is : IsBlock before readers names other second
+  pub choice_is : IsChosen first second (E.Condition (was_found f)) choice
+  pub whole_is : IsThen turned choice whole
+
+-- with the registers
+pub record IsSearch (before : List Declaration) (readers : Readers) (names : Names) (turns : List TextStatement) (ns : List Name) (found other : List TextStatement) (whole : Statement) : Type 0 where
+  pub searched : Statement
+  pub deep : HasLoop names
+  pub searched_is : IsSearched before readers (with_room names (length ns + 1)) (finding_at names (length ns)) turns ns found other searched
+  pub whole_is : AreNothing names.values (length ns + 1) searched whole

@@ -31,7 +31,8 @@ use Rattle.tl_lowering.specs.declared.program.Expression.TheVariants as E
 use Rattle.tl_lowering.specs.declared.program.Place.{Place}
 use Rattle.tl_lowering.specs.declared.program.Statement.{Statement}
 use Rattle.tl_lowering.specs.declared.program.Statement.TheVariants as S
-use Rattle.tl_lowering.specs.Failing.{Readers, number_failure, place_failure, is_told, IsFailure}
+use Rattle.tl_lowering.specs.declared.readers.Readers.{Readers}
+use Rattle.tl_lowering.specs.Failing.{in_part, number_failure, place_failure, is_told, IsFailure}
 use Rattle.tl_lowering.specs.Outcomes.{may_fail}
 use Rattle.tl_lowering.specs.Registers.{HasTemporaries}
 use Rattle.tl_lowering.specs.Fit.{loops}
@@ -175,5 +176,5 @@ pub record IsUsed (before : List Declaration) (readers : Readers) (names : Names
   pub part : Part
   pub index_is : index_of names name ≡ Some index
   pub part_is : slice_get before index ≡ Some (D.Part part)
-  pub given : IsGiven (take index before) readers names (inside index names) part.parameters.items arguments part.body.items whole
+  pub given : IsGiven (take index before) (in_part readers) names (inside index names) part.parameters.items arguments part.body.items whole
   pub nests : names.loops + loops whole ≤ MAX_DEPTH

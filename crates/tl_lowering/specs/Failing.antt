@@ -1,4 +1,4 @@
--- How statements fail, and the codes that their failures leave.
+-- What is read behind a place: the code of a failure, and what a loop is left with. How statements fail, and the codes that their failures leave.
 use Rattle.std.specs.Prelude.{◌≡◌, ℕ, List, Bool, true, false, Option, Some, None, is_some}
 use Rattle.std.specs.Option.{option_or}
 use Rattle.tl_syntax.specs.Codes.{code_of}
@@ -12,15 +12,14 @@ use Rattle.tl_lowering.specs.declared.program.Place.{Place}
 use Rattle.tl_lowering.specs.declared.program.Place.TheVariants as P
 use Rattle.tl_lowering.specs.declared.program.Statement.{Statement}
 use Rattle.tl_lowering.specs.declared.program.Statement.TheVariants as S
+use Rattle.tl_lowering.specs.declared.readers.Finding.{Finding}
+use Rattle.tl_lowering.specs.declared.readers.Readers.{Readers}
 use Rattle.tl_lowering.specs.Naming.{IsThen}
 use Rattle.tl_lowering.specs.Outcomes.{may_fail, condition_may_fail}
 
--- the register in which a failure leaves its code, if the `else` to which control goes then reads it
-pub record Readers : Type 0 where
-  pub code : Option ℕ
-
-abbrev pub readers_of : Option ℕ → Readers
-readers_of code = record { code = code }
+-- where nothing is read
+abbrev pub nothing_read : Readers
+nothing_read = record { code = None; finding = None }
 
 -- where nothing reads the code of a failure
 abbrev pub unread : Readers → Readers
@@ -29,6 +28,14 @@ unread readers = record readers { code = None }
 -- where it is read from register r
 abbrev pub reading : Readers → ℕ → Readers
 reading readers r = record readers { code = Some r }
+
+-- in the block of a loop that may be left with these values
+abbrev pub searching : Readers → Finding → Readers
+searching readers f = record readers { finding = Some f }
+
+-- in a part, which leaves none of the loops around its use
+abbrev pub in_part : Readers → Readers
+in_part readers = record readers { finding = None }
 
 -- how computing a number fails, if it may
 abbrev pub number_failure : Bool → Option Failure

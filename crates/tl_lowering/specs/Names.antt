@@ -119,6 +119,15 @@ abbrev pub with_values : Names → List Name → Names
 with_values names [] = names
 with_values names (name ∷ others) = with_values (with_value names name) others
 
+-- so many values without names use the next registers
+abbrev pub with_room : Names → ℕ → Names
+with_room names count = record names { values = names.values + count }
+
+-- the names denote the values in the registers from x on
+abbrev pub with_variables : Names → ℕ → List Name → Names
+with_variables names x [] = names
+with_variables names x (name ∷ others) = with_variables (with_variable names name x) (x + 1) others
+
 -- in the body of a loop
 abbrev pub in_loop : Names → Names
 in_loop names = record names { loops = names.loops + 1 }
@@ -127,6 +136,11 @@ in_loop names = record names { loops = names.loops + 1 }
 abbrev pub AreNew : Names → List Name → Type 0
 AreNew names [] = Unit {0}
 AreNew names (name ∷ others) = IsNew names name × AreNew (with_value names name) others
+
+-- the same of names for the values in the registers from x on
+abbrev pub AreFound : Names → ℕ → List Name → Type 0
+AreFound names x [] = Unit {0}
+AreFound names x (name ∷ others) = IsNew names name × AreFound (with_variable names name x) (x + 1) others
 
 -- the name denotes a node in the next register
 abbrev pub with_node : Names → Name → Names

@@ -1,5 +1,5 @@
 -- The core forms of blocks, procedures and texts.
-use Rattle.std.specs.Prelude.{◌≡◌, ◌≤◌, ◌+◌, ℕ, List, [], ◌∷◌, ◌++◌, Bool, true, false, Option, Some, None, length, take, get_or, slice_get, ℤ, pos, neg_ℤ}
+use Rattle.std.specs.Prelude.{◌≡◌, ◌≤◌, ◌+◌, ℕ, suc, List, [], ◌∷◌, ◌++◌, Bool, true, false, Option, Some, None, length, take, get_or, slice_get, ℤ, pos, neg_ℤ}
 use Rattle.tl_budget.specs.declared.limits.TheConstants.{MAX_DEPTH}
 use Rattle.std.specs.declared.vec.Vec.{Vec}
 use Rattle.std.specs.declared.alloc.Global.{Global}
@@ -30,6 +30,7 @@ use Rattle.tl_instr.specs.declared.operand.TheConstants.{VALUE_REGISTERS}
 use Rattle.tl_lowering.specs.declared.program.Expression.{Expression}
 use Rattle.tl_lowering.specs.declared.program.Expression.TheVariants as E
 use Rattle.tl_lowering.specs.declared.program.Condition.{Condition}
+use Rattle.tl_lowering.specs.declared.program.Condition.TheVariants as C
 use Rattle.tl_lowering.specs.declared.program.Place.{Place}
 use Rattle.tl_lowering.specs.declared.program.Place.TheVariants as P
 use Rattle.tl_lowering.specs.declared.program.Statement.{Statement}
@@ -37,13 +38,15 @@ use Rattle.tl_lowering.specs.declared.program.Statement.TheVariants as S
 use Rattle.tl_lowering.specs.declared.program.Procedure.{Procedure}
 use Rattle.tl_lowering.specs.declared.scope.Meaning.TheVariants as M
 use Rattle.tl_lowering.specs.Atomic.{IsAtomic}
-use Rattle.tl_lowering.specs.Failing.{Readers, unread, reading, number_failure, place_failure, is_told, IsFailure, IsMarked, IsRenewed}
+use Rattle.tl_lowering.specs.declared.readers.Finding.{Finding}
+use Rattle.tl_lowering.specs.declared.readers.Readers.{Readers}
+use Rattle.tl_lowering.specs.Failing.{nothing_read, unread, reading, searching, in_part, number_failure, place_failure, is_told, IsFailure, IsMarked, IsRenewed}
 use Rattle.tl_lowering.specs.Fit.{loops}
 use Rattle.tl_lowering.specs.Giving.{IsNodeGiven, IsVariableGiven, IsValueGiven}
 use Rattle.tl_lowering.specs.Outcomes.{may_fail, after}
 use Rattle.tl_lowering.specs.Sets.{Nodes}
 use Rattle.tl_lowering.specs.Registers.{behind, HasTemporaries, HasRegisters}
-use Rattle.tl_lowering.specs.Names.{Names, without_meaning, stands_for, IsNew, HasNode, HasValue, HasLoop, in_loop, with_constant, with_field, index_of, inside, with_procedure, with_index, with_unnamed, with_value, with_values, AreNew, AreFresh, field_named, with_node, with_place}
+use Rattle.tl_lowering.specs.Names.{Names, without_meaning, stands_for, IsNew, HasNode, HasValue, HasLoop, in_loop, with_constant, with_field, index_of, inside, with_procedure, with_index, with_unnamed, with_value, with_values, with_room, with_variables, AreNew, AreFound, AreFresh, field_named, with_node, with_place}
 use Rattle.tl_lowering.specs.Naming.{IsCalculated, IsNumber, IsConstant, IsCount, IsCondition, IsPlace, IsAction, IsThen, IsHalved}
 
 -- a statement with its offset in the text
@@ -73,6 +76,25 @@ pub data IsReason (names : Names) : Option TextExpression → Expression → Typ
 pub data IsRequired (readers : Readers) (names : Names) (form : Form) (why : Option TextExpression) : Statement → Type 0 where
   required : {p q : _} {c : Condition} {e : Expression} {refused : Statement} → IsCondition names form c → IsReason names why e → IsFailure readers.code e refused →
       IsRequired readers names form why (S.If' c p S.Skip q refused)
+
+-- so many values, from register x on, are 0 before the statement
+pub data AreNothing (x : ℕ) : ℕ → Statement → Statement → Type 0 where
+  none_more : {a : Statement} → AreNothing x 0 a a
+  one_more : {n : ℕ} {p : _} {a whole : Statement} → AreNothing x n (S.Let' (x + n) (E.Constant (pos 0)) p a) whole → AreNothing x (suc n) a whole
+
+-- each number is put into a register of its own, from x on, and then the loop is left
+pub data AreLeft (names : Names) (way : Statement) : ℕ → List TextExpression → Statement → Type 0 where
+  none_left : {x : ℕ} → AreLeft names way x [] way
+  next_left : {x : ℕ} {es : List TextExpression} {e : Expression} {rest whole : Statement} (a : TextExpression) → IsNumber names a.form e → HasTemporaries e names.values →
+      AreLeft names way (x + 1) es rest → IsThen (S.Assign x e) rest whole → AreLeft names way x (a ∷ es) whole
+
+-- what a loop that begins here is left with: a value that says whether it is, and so many above it
+abbrev pub finding_at : Names → ℕ → Finding
+finding_at names count = record { flag = names.values; count = count; depth = names.loops + 1 }
+
+-- whether a loop was left with them
+abbrev pub was_found : Finding → Condition
+was_found f = C.Equal (E.Value f.flag) (E.Constant (pos 1))
 
 -- As many turns as the node has children, each of which locks the next child. It fails if there are more children than turns, and where a child can't be locked.
 pub data IsVisiting (index child parent turns : ℕ) (body : Statement) : Statement → Type 0 where
@@ -150,6 +172,14 @@ mutual
         IsVisiting names.values names.nodes n turns b whole →
         IsStatement before readers names (T.ForEach child index parent most xs) whole
     block_alone : {before : List Declaration} {readers : Readers} {names : Names} (xs : Vec TextStatement Global) {a : Statement} → IsBlock before readers names xs.items a → IsStatement before readers names (T.Block xs) a
+    -- A loop that may be left with numbers, and what is done behind it where it is, and where it isn't. Whether it is is in the next value register, and the numbers are in those above it: all are 0 before the loop.
+    search : {before : List Declaration} {readers : Readers} {names : Names} (turns found other : Vec TextStatement Global) (ns : Vec Name Global) {a b c both whole : Statement} {p q : _} →
+        HasLoop names → names.values + (length ns.items + 1) + 1 ≤ VALUE_REGISTERS →
+        IsBlock before (searching readers (finding_at names (length ns.items))) (with_room names (length ns.items + 1)) turns.items a →
+        AreFound (with_room names (length ns.items + 1)) (names.values + 1) ns.items →
+        IsBlock before readers (with_variables (with_room names (length ns.items + 1)) (names.values + 1) ns.items) found.items b →
+        IsBlock before readers (with_room names (length ns.items + 1)) other.items c → IsThen a (S.If' (was_found (finding_at names (length ns.items))) p b q c) both →
+        AreNothing names.values (length ns.items + 1) both whole → IsStatement before readers names (T.Search turns ns found other) whole
 
   -- an action that declares nothing, where a part is expanded
   pub data IsActed : List Declaration → Readers → Names → Action → Statement → Type 0 where
@@ -159,10 +189,13 @@ mutual
     fails : {before : List Declaration} {readers : Readers} {names : Names} {a : Statement} → IsFailure readers.code (E.Constant (pos 0)) a → IsActed before readers names (A.Leave L.Fail) a
     fails_with : {before : List Declaration} {readers : Readers} {names : Names} {code : TextExpression} {e : Expression} {a : Statement} → IsCode names code.form e →
         IsFailure readers.code e a → IsActed before readers names (A.Fail code) a
+    -- of the innermost loop, behind which its numbers have names
+    breaks_with : {before : List Declaration} {readers : Readers} {names : Names} {values : Vec TextExpression Global} {f : Finding} {way a : Statement} → readers.finding ≡ Some f → f.depth ≡ names.loops →
+        f.count ≡ length values.items → IsThen (S.Assign f.flag (E.Constant (pos 1))) S.Break way → AreLeft names way (f.flag + 1) values.items a → IsActed before readers names (A.BreakWith values) a
     -- the part's body knows the declarations before the part, and no others; its loops nest in those around its use
     used : {before : List Declaration} {readers : Readers} {names : Names} {name : Name} (arguments : Vec TextExpression Global) {k : ℕ} {p : Part} {a : Statement} →
         index_of names name ≡ Some k → slice_get before k ≡ Some (D.Part p) →
-        IsGiven (take k before) readers names (inside k names) p.parameters.items arguments.items p.body.items a → names.loops + loops a ≤ MAX_DEPTH →
+        IsGiven (take k before) (in_part readers) names (inside k names) p.parameters.items arguments.items p.body.items a → names.loops + loops a ≤ MAX_DEPTH →
         IsActed before readers names (A.Use name arguments) a
 
   -- the body of a part, with what is given for each of its names: a node, a value, or a number in a `let`
@@ -182,8 +215,8 @@ mutual
 
 -- what is read of a failure in the body of a procedure, and below the meanings of names there and in its `else`
 abbrev pub readers_in : Names → Option Name → Readers
-readers_in names None = record { code = None }
-readers_in names (Some why) = record { code = Some names.values }
+readers_in names None = nothing_read
+readers_in names (Some why) = reading nothing_read names.values
 
 abbrev pub names_in_body : Names → Option Name → Names
 names_in_body names None = names
@@ -211,7 +244,7 @@ pub record IsBody (before : List Declaration) (names : Names) (text : TextProced
   pub handled : Statement
   pub room : HasCode names text.why
   pub body_is : IsBlock before (readers_in names text.why) (names_in_body names text.why) text.body.items body
-  pub handler_is : IsBlock before (record { code = None }) (names_in_else names text.why) text.otherwise.items handler
+  pub handler_is : IsBlock before nothing_read (names_in_else names text.why) text.otherwise.items handler
   pub handled_is : IsCaught names body handler text.why handled
   pub whole_is : IsTried handled S.Skip whole
   pub atomic : text.is_atomic ≡ true → IsAtomic body

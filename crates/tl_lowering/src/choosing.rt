@@ -1,8 +1,7 @@
 // An `if`, with registers in place of names.
 
 ghost use Rattle.std.specs.Prelude.{◌≡◌, IfOk, OnOk};
-ghost use Rattle.tl_lowering.specs.Choosing.{IsEntered, names_behind, IsChosen};
-ghost use Rattle.tl_lowering.specs.Failing.{readers_of};
+ghost use Rattle.tl_lowering.specs.Choosing.{IsEntered, names_behind, IsChosen, IsChoice};
 ghost use Rattle.tl_lowering.specs.Entering.{before_of, IsEntering, IsEnteringEntrance, entrance_entered};
 ghost use Rattle.tl_lowering.specs.Names.{names_of};
 ghost use Rattle.tl_lowering.specs.Reading.{IsBlock};
@@ -14,12 +13,12 @@ use crate::lowering::{Entrance, Lowered, Lowering};
 use crate::naming::asked;
 use crate::paths::Held;
 use crate::program::Statement;
-use tl_instr::ValueRegister;
+use crate::readers::Readers;
 use tl_syntax::SyntaxFault;
 use tl_syntax::parsed::{self, Declaration, Question};
 
 impl Lowering {
-    pub fn entrance(&self, question: &Question, held: Held) -> Result<Entrance, SyntaxFault>
+    fn entrance(&self, question: &Question, held: Held) -> Result<Entrance, SyntaxFault>
         requires { IsAt (view_of self.now.scope) held }
         ensures named { IfOk result (IsEntered (names_of self.now.scope) question.now) }
         ensures entrance { IfOk result (IsEntrance (view_of self.now.scope) held) }
@@ -92,12 +91,12 @@ impl Lowering {
         }
     }
 
-    /// The first block of an `if`.
+    // The first block of an `if`.
     #[cycle(lowering)]
-    pub fn first_block(
+    fn first_block(
         &mut self,
         before: &[Declaration],
-        reader: Option<ValueRegister>,
+        readers: &Readers,
         entrance: &Entrance,
         body: &[parsed::Statement],
         held: Held,
@@ -105,7 +104,7 @@ impl Lowering {
         requires at { IsAt (view_of self.old.scope) held }
         requires entrance { IsEntrance (view_of self.old.scope) held entrance.now }
         ensures scope { OnOk result (view_of self.new.scope ≡ view_of self.old.scope) }
-        ensures named { IfOk result (λ l. IsBlock before.now (readers_of reader)
+        ensures named { IfOk result (λ l. IsBlock before.now readers.now
             (names_behind (names_of self.old.scope) entrance.now) body.now l.0) }
         ensures inside { IfOk result (λ l. IsInside (view_of self.old.scope) held entrance.now l.0 l.1) }
         ensures entering { IsEnteringEntrance (before_of held) entrance.now
@@ -113,8 +112,31 @@ impl Lowering {
     {
         let mark = self.scope.mark();
         let inside = self.enter(entrance, held)?;
-        let first = self.block(before, reader, body, inside)?;
+        let first = self.block(before, readers, body, inside)?;
         self.scope.return_to(mark);
         Ok(first)
+    }
+
+    /// An `if`.
+    #[cycle(lowering)]
+    pub fn choice(
+        &mut self,
+        before: &[Declaration],
+        readers: &Readers,
+        question: &Question,
+        body: &[parsed::Statement],
+        otherwise: &[parsed::Statement],
+        held: Held,
+    ) -> Result<Lowered, SyntaxFault>
+        requires { IsAt (view_of self.old.scope) held }
+        ensures scope { OnOk result (view_of self.new.scope ≡ view_of self.old.scope) }
+        ensures named { IfOk result (λ l. IsChoice before.now readers.now (names_of self.old.scope) question.now body.now otherwise.now l.0) }
+        ensures lowered { IfOk result (λ l. IsLowered (view_of self.old.scope) held l.0 l.1) }
+        ensures entering { IfOk result (λ l. IsEntering (before_of held) l.0 l.1) }
+    {
+        let entrance = self.entrance(question, held)?;
+        let first = self.first_block(before, readers, &entrance, body, held)?;
+        let second = self.block(before, readers, otherwise, held)?;
+        self.chosen(entrance, first, second, held)
     }
 }

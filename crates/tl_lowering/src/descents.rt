@@ -130,6 +130,9 @@ impl Scope {
             StatementForm::Repeat { body, .. }
             | StatementForm::ForEach { body, .. }
             | StatementForm::Block(body) => self.may_descend(body),
+            StatementForm::Search(turns, _, found, otherwise) => {
+                self.may_descend(turns) | self.may_descend(found) | self.may_descend(otherwise)
+            }
         }
     }
 

@@ -1,9 +1,9 @@
 // How statements fail, and the codes that their failures leave.
 
-ghost use Rattle.std.specs.Prelude.{◌≡◌, ◌<◌, true, false, IfOk, IfSome, List};
+ghost use Rattle.std.specs.Prelude.{◌≡◌, ◌<◌, true, false, IfOk, OnOk, IfSome, List};
 ghost use Rattle.tl_lowering.specs.Choosing.{IsKept};
 ghost use Rattle.tl_lowering.specs.Entering.{before_of, IsEntering};
-ghost use Rattle.tl_lowering.specs.Failing.{readers_of, number_failure as number_failure_lem, place_failure as place_failure_lem, failure_at, IsFailure, IsMarked};
+ghost use Rattle.tl_lowering.specs.Failing.{number_failure as number_failure_lem, place_failure as place_failure_lem, failure_at, IsFailure, IsMarked};
 ghost use Rattle.tl_lowering.specs.Lowering.{IsRefusal};
 ghost use Rattle.tl_lowering.specs.Names.{names_of};
 ghost use Rattle.tl_lowering.specs.Outcomes.{may_fail as may_fail_lem};
@@ -12,6 +12,7 @@ ghost use Rattle.tl_lowering.specs.Paths.{nodes_of};
 ghost use Rattle.tl_lowering.specs.Reading.{IsCode, IsReason, IsRequired, IsActed};
 ghost use Rattle.tl_lowering.specs.Repeating.{IsTurn};
 ghost use Rattle.tl_lowering.specs.Scopes.{view_of, IsAt, IsLowered};
+ghost use Rattle.tl_lowering.specs.declared.program.Statement.TheVariants.{Break};
 ghost use Rattle.tl_lowering.specs.Sound.{IsReadable};
 ghost use Rattle.tl_syntax.specs.declared.parsed.Action.TheVariants.{Leave as leave_by};
 ghost use Rattle.tl_syntax.specs.declared.parsed.Declaration.{Declaration};
@@ -20,6 +21,7 @@ use crate::loops::Repetition;
 use crate::lowering::{Lowered, Lowering};
 use crate::paths::{Flow, Held};
 use crate::program::{Expression, Place, Statement};
+use crate::readers::Readers;
 use crate::values::{check_registers, condition_may_fail, may_fail, registers_of};
 use tl_instr::ValueRegister;
 use tl_syntax::parsed::{self, Leave};
@@ -80,34 +82,42 @@ impl Lowering {
     // way of the `else` that reads it. 291 if it isn't.
     fn code_register(
         &self,
-        reader: Option<ValueRegister>,
+        readers: &Readers,
         offset: usize,
     ) -> Result<Option<ValueRegister>, SyntaxFault>
-        ensures same { IfOk result (λ r. r ≡ reader) }
+        ensures same { IfOk result (λ r. r ≡ readers.now.code) }
         ensures in_use { IfOk result (λ r. IfSome r (λ x. x < self.now.scope.values)) }
     {
-        let Some(register) = reader else {
+        let Some(register) = readers.code else {
             return Ok(None);
         };
+        self.check_in_use(register, offset)?;
+        Ok(Some(register))
+    }
+
+    /// 291 if the register isn't one of those in use.
+    pub fn check_in_use(&self, register: ValueRegister, offset: usize) -> Result<(), SyntaxFault>
+        ensures { OnOk result (register < self.now.scope.values) }
+    {
         if register.index() >= usize::from(self.scope.values) {
             return Err(SyntaxFault::at(Wrong::Values, offset));
         }
-        Ok(Some(register))
+        Ok(())
     }
 
     /// The statement, behind a mark that says how it fails by itself if it does.
     pub fn marked(
         &self,
-        reader: Option<ValueRegister>,
+        readers: &Readers,
         statement: Statement,
         offset: usize,
     ) -> Result<Statement, SyntaxFault>
-        ensures named { IfOk result (IsMarked reader statement) }
+        ensures named { IfOk result (IsMarked readers.now.code statement) }
         ensures lowered { (held : Held) (flow : Flow) → IsLowered (view_of self.now.scope) held statement flow
             → IfOk result (λ s. IsLowered (view_of self.now.scope) held s flow) }
         ensures entering { (e : Before) (flow : Flow) → IsEntering e statement flow → IfOk result (λ s. IsEntering e s flow) }
     {
-        let Some(register) = self.code_register(reader, offset)? else {
+        let Some(register) = self.code_register(readers, offset)? else {
             return Ok(statement);
         };
         let Some(failure) = own_failure(&statement) else {
@@ -120,17 +130,17 @@ impl Lowering {
     /// The body of a loop's turn. Behind it a loop over children may fail again by itself.
     pub fn renewed(
         &self,
-        reader: Option<ValueRegister>,
+        readers: &Readers,
         repetition: &Repetition,
         body: Statement,
         offset: usize,
     ) -> Result<Statement, SyntaxFault>
-        ensures named { IfOk result (IsKept (readers_of reader) repetition.now body) }
+        ensures named { IfOk result (IsKept readers.now repetition.now body) }
         ensures turn { (start : Held) (flow : Flow) → IsTurn self.now.scope.values self.now.scope.nodes (nodes_of start) repetition.now body flow
             → IfOk result (λ s. IsTurn self.now.scope.values self.now.scope.nodes (nodes_of start) repetition.now s flow) }
         ensures entering { (e : Before) (flow : Flow) → IsEntering e body flow → IfOk result (λ s. IsEntering e s flow) }
     {
-        let Some(register) = self.code_register(reader, offset)? else {
+        let Some(register) = self.code_register(readers, offset)? else {
             return Ok(body);
         };
         match repetition {
@@ -145,19 +155,19 @@ impl Lowering {
     /// A failure with that code.
     pub fn failure(
         &self,
-        reader: Option<ValueRegister>,
+        readers: &Readers,
         code: Expression,
         offset: usize,
         held: Held,
     ) -> Result<Lowered, SyntaxFault>
         requires readable { IsReadable self.now.scope.values (nodes_of held) code }
         requires short { may_fail_lem code ≡ false }
-        ensures named { IfOk result (λ l. IsFailure reader code l.0) }
+        ensures named { IfOk result (λ l. IsFailure readers.now.code code l.0) }
         ensures refusal { IfOk result (λ l. IsRefusal (view_of self.now.scope) held l.0 l.1) }
         ensures entering { IfOk result (λ l. IsEntering (before_of held) l.0 l.1) }
     {
         let flow = Flow::NOWHERE.failing(held);
-        match self.code_register(reader, offset)? {
+        match self.code_register(readers, offset)? {
             None => Ok((Statement::Fail, flow)),
             Some(register) => {
                 let whole = self.then(Statement::Assign(register, code), Statement::Fail)?;
@@ -166,33 +176,42 @@ impl Lowering {
         }
     }
 
+    /// Leaves the innermost loop. 288 if there is none.
+    pub fn break_out(&self, offset: usize, held: Held) -> Result<Lowered, SyntaxFault>
+        requires { IsAt (view_of self.now.scope) held }
+        ensures named { IfOk result (λ l. l.0 ≡ Break) }
+        ensures in_loop { OnOk result (0 < self.now.scope.loops) }
+        ensures lowered { IfOk result (λ l. IsLowered (view_of self.now.scope) held l.0 l.1) }
+        ensures entering { IfOk result (λ l. IsEntering (before_of held) l.0 l.1) }
+    {
+        if self.scope.loops == 0 {
+            return Err(SyntaxFault::at(Wrong::NoLoop, offset));
+        }
+        let flow = Flow {
+            breaks: Some(held),
+            ..Flow::NOWHERE
+        };
+        Ok((Statement::Break, flow))
+    }
+
     /// A statement that leaves its block, without a code. 288 for a `break` outside a loop.
     pub fn leave(
         &self,
-        reader: Option<ValueRegister>,
+        readers: &Readers,
         leave: Leave,
         offset: usize,
         held: Held,
     ) -> Result<Lowered, SyntaxFault>
         requires { IsAt (view_of self.now.scope) held }
         ensures named { (before : List Declaration)
-            → IfOk result (λ l. IsActed before (readers_of reader) (names_of self.now.scope) (leave_by leave) l.0) }
+            → IfOk result (λ l. IsActed before readers.now (names_of self.now.scope) (leave_by leave) l.0) }
         ensures lowered { IfOk result (λ l. IsLowered (view_of self.now.scope) held l.0 l.1) }
         ensures entering { IfOk result (λ l. IsEntering (before_of held) l.0 l.1) }
     {
         match leave {
-            Leave::Break => {
-                if self.scope.loops == 0 {
-                    return Err(SyntaxFault::at(Wrong::NoLoop, offset));
-                }
-                let flow = Flow {
-                    breaks: Some(held),
-                    ..Flow::NOWHERE
-                };
-                Ok((Statement::Break, flow))
-            }
+            Leave::Break => self.break_out(offset, held),
             Leave::Return => Ok((Statement::Return, Flow::NOWHERE)),
-            Leave::Fail => self.failure(reader, Expression::Constant(0), offset, held),
+            Leave::Fail => self.failure(readers, Expression::Constant(0), offset, held),
         }
     }
 
@@ -232,20 +251,20 @@ impl Lowering {
     /// A condition that is required, and the code of the failure where it doesn't hold.
     pub fn require(
         &self,
-        reader: Option<ValueRegister>,
+        readers: &Readers,
         condition: &parsed::Expression,
         code: &Option<parsed::Expression>,
         held: Held,
     ) -> Result<Lowered, SyntaxFault>
         requires { IsAt (view_of self.now.scope) held }
-        ensures named { IfOk result (λ l. IsRequired (readers_of reader) (names_of self.now.scope) condition.now.form code.now l.0) }
+        ensures named { IfOk result (λ l. IsRequired readers.now (names_of self.now.scope) condition.now.form code.now l.0) }
         ensures lowered { IfOk result (λ l. IsLowered (view_of self.now.scope) held l.0 l.1) }
         ensures entering { IfOk result (λ l. IsEntering (before_of held) l.0 l.1) }
     {
         let offset = condition.offset;
         let condition = self.scope.condition(self.alloc, condition, held)?;
         let number = self.reason(code, held)?;
-        let (fail, _) = self.failure(reader, number, offset, held)?;
+        let (fail, _) = self.failure(readers, number, offset, held)?;
         let skip = self.boxed(Statement::Skip)?;
         let flow = Flow::on(held).failing(held);
         Ok((Statement::If(condition, skip, self.boxed(fail)?), flow))

@@ -3,7 +3,7 @@
 ghost use Rattle.std.specs.Prelude.{◌≡◌, ◌+◌, Some, IfOk, OnOk};
 ghost use Rattle.tl_lowering.specs.Drafts.{IsTry, IsHeard, IsHandled};
 ghost use Rattle.tl_lowering.specs.Entering.{before_of, IsEntering};
-ghost use Rattle.tl_lowering.specs.Failing.{readers_of};
+ghost use Rattle.tl_lowering.specs.Failing.{reading};
 ghost use Rattle.tl_lowering.specs.Names.{names_of, IsNew, HasValue, with_unnamed};
 ghost use Rattle.tl_lowering.specs.Reading.{IsBlock};
 ghost use Rattle.tl_lowering.specs.Scopes.{view_of, IsAt, IsLowered};
@@ -11,6 +11,7 @@ ghost use Rattle.tl_lowering.specs.Scopes.{view_of, IsAt, IsLowered};
 use crate::lowering::{Lowered, Lowering};
 use crate::paths::Held;
 use crate::program::Expression;
+use crate::readers::Readers;
 use tl_instr::ValueRegister;
 use tl_syntax::SyntaxFault;
 use tl_syntax::parsed::{self, Declaration, Name};
@@ -21,7 +22,7 @@ impl Lowering {
     pub fn tried(
         &mut self,
         before: &[Declaration],
-        reader: Option<ValueRegister>,
+        readers: &Readers,
         why: &Option<Name>,
         body: &[parsed::Statement],
         handler: &[parsed::Statement],
@@ -29,16 +30,17 @@ impl Lowering {
     ) -> Result<Lowered, SyntaxFault>
         requires { IsAt (view_of self.old.scope) held }
         ensures scope { OnOk result (view_of self.new.scope ≡ view_of self.old.scope) }
-        ensures named { IfOk result (λ l. IsTry before.now (readers_of reader) (names_of self.old.scope) why.now body.now handler.now l.0) }
+        ensures named { IfOk result (λ l. IsTry before.now readers.now (names_of self.old.scope) why.now body.now handler.now l.0) }
         ensures lowered { IfOk result (λ l. IsLowered (view_of self.old.scope) held l.0 l.1) }
         ensures entering { IfOk result (λ l. IsEntering (before_of held) l.0 l.1) }
     {
         let Some(why) = why else {
-            let lowered = self.block(before, None, body, held)?;
-            return self.handled(before, reader, lowered, handler, held);
+            let unread = readers.unread();
+            let lowered = self.block(before, &unread, body, held)?;
+            return self.handled(before, readers, lowered, handler, held);
         };
-        let (register, lowered) = self.told(before, *why, body, held)?;
-        self.heard(before, reader, (*why, register), lowered, handler, held)
+        let (register, lowered) = self.told(before, readers, *why, body, held)?;
+        self.heard(before, readers, (*why, register), lowered, handler, held)
     }
 
     /// A statement, and the handler of its failure. `held` held when the statement began.
@@ -46,7 +48,7 @@ impl Lowering {
     pub fn handled(
         &mut self,
         before: &[Declaration],
-        reader: Option<ValueRegister>,
+        readers: &Readers,
         lowered: Lowered,
         handler: &[parsed::Statement],
         held: Held,
@@ -55,12 +57,12 @@ impl Lowering {
         requires lowered { IsLowered (view_of self.old.scope) held lowered.0 lowered.1 }
         requires entering { IsEntering (before_of held) lowered.0 lowered.1 }
         ensures scope { OnOk result (view_of self.new.scope ≡ view_of self.old.scope) }
-        ensures named { IfOk result (λ l. IsHandled before.now (readers_of reader) (names_of self.old.scope) lowered.0 handler.now l.0) }
+        ensures named { IfOk result (λ l. IsHandled before.now readers.now (names_of self.old.scope) lowered.0 handler.now l.0) }
         ensures lowered { IfOk result (λ l. IsLowered (view_of self.old.scope) held l.0 l.1) }
         ensures entering { IfOk result (λ l. IsEntering (before_of held) l.0 l.1) }
     {
         let (statement, flow) = lowered;
-        let (handler, other) = self.block(before, reader, handler, flow.handled(held))?;
+        let (handler, other) = self.block(before, readers, handler, flow.handled(held))?;
         let attempt = self.attempt(statement, handler)?;
         Ok((attempt, flow.handled_by(other)))
     }
@@ -70,6 +72,7 @@ impl Lowering {
     pub fn told(
         &mut self,
         before: &[Declaration],
+        readers: &Readers,
         why: Name,
         body: &[parsed::Statement],
         held: Held,
@@ -79,7 +82,7 @@ impl Lowering {
         ensures fresh { OnOk result (IsNew (names_of self.old.scope) why) }
         ensures room { OnOk result (HasValue (names_of self.old.scope)) }
         ensures register { IfOk result (λ t. t.0 ≡ self.old.scope.values) }
-        ensures named { IfOk result (λ t. IsBlock before.now (readers_of (Some self.old.scope.values))
+        ensures named { IfOk result (λ t. IsBlock before.now (reading readers.now self.old.scope.values)
             (with_unnamed (names_of self.old.scope)) body.now t.1.0) }
         ensures lowered { IfOk result (λ t. IsLowered (record (view_of self.old.scope) { values = self.old.scope.values + 1 }) held t.1.0 t.1.1) }
         ensures entering { IfOk result (λ t. IsEntering (before_of held) t.1.0 t.1.1) }
@@ -88,7 +91,8 @@ impl Lowering {
         let register = self.scope.next_value(why.offset)?;
         let mark = self.scope.mark();
         self.scope.add_value();
-        let lowered = self.block(before, Some(register), body, held)?;
+        let reading = readers.reading(register);
+        let lowered = self.block(before, &reading, body, held)?;
         self.scope.return_to(mark);
         Ok((register, lowered))
     }
@@ -98,7 +102,7 @@ impl Lowering {
     pub fn heard(
         &mut self,
         before: &[Declaration],
-        reader: Option<ValueRegister>,
+        readers: &Readers,
         why: (Name, ValueRegister),
         lowered: Lowered,
         handler: &[parsed::Statement],
@@ -110,14 +114,14 @@ impl Lowering {
         requires lowered { IsLowered (record (view_of self.old.scope) { values = self.old.scope.values + 1 }) held lowered.0 lowered.1 }
         requires entering { IsEntering (before_of held) lowered.0 lowered.1 }
         ensures scope { OnOk result (view_of self.new.scope ≡ view_of self.old.scope) }
-        ensures named { IfOk result (λ l. IsHeard before.now (readers_of reader) (names_of self.old.scope) why.0 lowered.0 handler.now l.0) }
+        ensures named { IfOk result (λ l. IsHeard before.now readers.now (names_of self.old.scope) why.0 lowered.0 handler.now l.0) }
         ensures lowered { IfOk result (λ l. IsLowered (view_of self.old.scope) held l.0 l.1) }
         ensures entering { IfOk result (λ l. IsEntering (before_of held) l.0 l.1) }
     {
         let (name, register) = why;
         let mark = self.scope.mark();
         self.scope.declare_value(name, register)?;
-        let tried = self.handled(before, reader, lowered, handler, held)?;
+        let tried = self.handled(before, readers, lowered, handler, held)?;
         self.scope.return_to(mark);
         self.let_in(register, Expression::Constant(0), tried, held)
     }

@@ -3,7 +3,6 @@
 ghost use Rattle.std.specs.Prelude.{◌≡◌, ◌≢◌, ◌+◌, ◌<◌, Bool, true, None, option_map, IfOk, OnOk, IfSome};
 ghost use Rattle.std.specs.Borrow.{Bor};
 ghost use Rattle.tl_lowering.specs.declared.paths.Held.{Held};
-ghost use Rattle.tl_lowering.specs.Failing.{readers_of};
 ghost use Rattle.tl_lowering.specs.Entering.{before_of, entered_at, entered_of, before_body, before_turns, IsEntering};
 ghost use Rattle.tl_lowering.specs.Choosing.{IsRepeated, IsVisited, names_within, IsTurning, IsTurnBody, IsLoop};
 ghost use Rattle.tl_lowering.specs.Names.{names_of, AreFresh};
@@ -19,6 +18,7 @@ use crate::descents::passed_down;
 use crate::lowering::{Lowered, Lowering};
 use crate::paths::{Flow, Held, join};
 use crate::program::{Expression, Place, Statement};
+use crate::readers::Readers;
 use crate::values::{behind, calculated, check_registers};
 use tl_budget::MAX_DEPTH;
 use tl_instr::{NodeRegister, ValueRegister};
@@ -59,8 +59,8 @@ fn leaving(after: Option<Held>, fails: Option<Held>, held: Held) -> Flow
 }
 
 impl Lowering {
-    // 293 inside four loops.
-    fn check_depth(&self, offset: usize) -> Result<(), SyntaxFault>
+    /// 293 inside four loops.
+    pub fn check_depth(&self, offset: usize) -> Result<(), SyntaxFault>
         ensures { OnOk result (self.now.scope.loops < MAX_DEPTH) }
     {
         if usize::from(self.scope.loops) >= MAX_DEPTH {
@@ -254,7 +254,7 @@ impl Lowering {
     fn turn(
         &mut self,
         before: &[Declaration],
-        reader: Option<ValueRegister>,
+        readers: &Readers,
         repetition: &Repetition,
         body: &[parsed::Statement],
         offset: usize,
@@ -264,19 +264,18 @@ impl Lowering {
         requires repetition { IsRepetition (view_of self.old.scope) start repetition.now }
         requires depth { self.old.scope.loops < MAX_DEPTH }
         ensures scope { OnOk result (view_of self.new.scope ≡ view_of self.old.scope) }
-        ensures named { IfOk result (λ l. IsTurnBody before.now (readers_of reader) (names_of self.old.scope) repetition.now body.now l.0) }
+        ensures named { IfOk result (λ l. IsTurnBody before.now readers.now (names_of self.old.scope) repetition.now body.now l.0) }
         ensures turn { IfOk result (λ l. IsTurn self.old.scope.values self.old.scope.nodes (nodes_of start) repetition.now l.0 l.1) }
         ensures entering { IfOk result (λ l. IsEntering (before_body repetition.now (before_of start)) l.0 l.1) }
         ensures once { IfOk result (λ l. KeepsOut (entered_of l.1).after (before_of start)) }
     {
         let mark = self.scope.mark();
         let inside = self.begin(repetition, start)?;
-        let reader_inside = reader;
-        let (body, flow) = self.block(before, reader_inside, body, inside)?;
+        let (body, flow) = self.block(before, readers, body, inside)?;
         self.scope.return_to(mark);
         self.scope.loops = self.scope.loops.saturating_sub(1);
         let flow = self.check_turn(flow, start, offset)?;
-        let body = self.renewed(reader, repetition, body, offset)?;
+        let body = self.renewed(readers, repetition, body, offset)?;
         Ok((body, flow))
     }
 
@@ -286,7 +285,7 @@ impl Lowering {
     pub fn turns(
         &mut self,
         before: &[Declaration],
-        reader: Option<ValueRegister>,
+        readers: &Readers,
         repetition: Repetition,
         body: &[parsed::Statement],
         offset: usize,
@@ -297,18 +296,17 @@ impl Lowering {
         requires depth { self.old.scope.loops < MAX_DEPTH }
         requires fresh { IsUnpassed (passed_of held) repetition }
         ensures scope { OnOk result (view_of self.new.scope ≡ view_of self.old.scope) }
-        ensures named { IfOk result (λ l. IsLoop before.now (readers_of reader) (names_of self.old.scope) repetition body.now l.0) }
+        ensures named { IfOk result (λ l. IsLoop before.now readers.now (names_of self.old.scope) repetition body.now l.0) }
         ensures lowered { IfOk result (λ l. IsLowered (view_of self.old.scope) held l.0 l.1) }
         ensures entering { IfOk result (λ l. IsEntering (before_of held) l.0 l.1) }
     {
         let guess = held.forgetting(self.scope.may_descend(body));
-        let reader_inside = reader;
-        let first = self.turn(before, reader_inside, &repetition, body, offset, guess)?;
+        let first = self.turn(before, readers, &repetition, body, offset, guess)?;
         let start = held.forgetting(passed_down(&repetition, &first.0));
         if start.visited == guess.visited {
             return self.repeated(repetition, first, start, held);
         }
-        let again = self.turn(before, reader, &repetition, body, offset, start)?;
+        let again = self.turn(before, readers, &repetition, body, offset, start)?;
         self.repeated(repetition, again, start, held)
     }
 }

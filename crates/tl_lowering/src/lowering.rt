@@ -5,7 +5,8 @@ ghost use Rattle.tl_lowering.specs.Blocks.{IsBinding, IsClosing, Closes, IsWellF
 ghost use Rattle.tl_lowering.specs.Drafts.{opens, head_failure as head_failure_lem, IsMissing, IsOpening, IsHeadOf, IsElse, IsElseOf, other_of, Opens, Binds, Encloses, Becomes, IsFinished, MayFollow, IsExtended};
 ghost use Rattle.tl_lowering.specs.Entering.{before_of, entered_of, IsEntering, IsEnteringHead, IsEnteringBinding, EntersSoFar};
 ghost use Rattle.tl_lowering.specs.Passing.{Before, Entered, then_by};
-ghost use Rattle.tl_lowering.specs.Failing.{readers_of, Readers, is_told};
+ghost use Rattle.tl_lowering.specs.Failing.{is_told};
+ghost use Rattle.tl_lowering.specs.declared.readers.Readers.{Readers as KnownReaders};
 ghost use Rattle.tl_lowering.specs.Names.{names_of};
 ghost use Rattle.tl_lowering.specs.Naming.{declares};
 ghost use Rattle.tl_lowering.specs.Reading.{IsBlock, AreStatements, IsStatement, IsActed};
@@ -23,6 +24,7 @@ use crate::naming::Locking;
 use crate::parts::MAX_BLOCKS;
 use crate::paths::{Flow, Held};
 use crate::program::{Condition, Expression, Place, Statement};
+use crate::readers::Readers;
 use crate::scope::Scope;
 use crate::values::may_fail;
 use std::alloc::Global;
@@ -184,13 +186,13 @@ impl Lowering {
     pub fn block(
         &mut self,
         before: &[Declaration],
-        reader: Option<ValueRegister>,
+        readers: &Readers,
         statements: &[parsed::Statement],
         held: Held,
     ) -> Result<Lowered, SyntaxFault>
         requires { IsAt (view_of self.old.scope) held }
         ensures scope { OnOk result (view_of self.new.scope ≡ view_of self.old.scope) }
-        ensures named { IfOk result (λ l. IsBlock before.now (readers_of reader) (names_of self.old.scope) statements.now l.0) }
+        ensures named { IfOk result (λ l. IsBlock before.now readers.now (names_of self.old.scope) statements.now l.0) }
         ensures lowered { IfOk result (λ l. IsLowered (view_of self.old.scope) held l.0 l.1) }
         ensures entering { IfOk result (λ l. IsEntering (before_of held) l.0 l.1) }
     {
@@ -206,7 +208,7 @@ impl Lowering {
             let Some(held_here) = draft.flow.after else {
                 return Err(SyntaxFault::at(Wrong::Unreached, statement.offset));
             };
-            let flow = self.extend(before, reader, &mut draft, statement, held_here)?;
+            let flow = self.extend(before, readers, &mut draft, statement, held_here)?;
             draft.flow = draft.flow.then(flow);
         }
         self.scope.return_to(mark);
@@ -247,7 +249,7 @@ impl Lowering {
         requires otherwise { IfSome otherwise (λ l. IsRefusal (view_of self.old.scope) held l.0 l.1) }
         requires entering { IsEnteringHead (before_of held) head }
         requires refused { IfSome otherwise (λ l. IsEntering (before_of held) l.0 l.1) }
-        ensures named { (before : List TextDeclaration) (readers : Readers) (form : TextForm) → IsOpening (names_of self.old.scope) form head
+        ensures named { (before : List TextDeclaration) (readers : KnownReaders) (form : TextForm) → IsOpening (names_of self.old.scope) form head
             → IsElse before readers (names_of self.old.scope) form head otherwise
             → IfOk result (λ b. Opens before readers (names_of self.old.scope) form b.0 (names_of self.new.scope)) }
         ensures binding { IfOk result (λ b. IsBinding b.0 self.old.scope.values self.old.scope.nodes (nodes_of held) (is_in_loop (view_of self.old.scope))) }
@@ -282,25 +284,25 @@ impl Lowering {
     // declaration can't fail.
     fn missing_else(
         &self,
-        reader: Option<ValueRegister>,
+        readers: &Readers,
         head: &Head,
         offset: usize,
         held: Held,
     ) -> Result<Option<Lowered>, SyntaxFault>
         requires { IsAt (view_of self.now.scope) held }
-        ensures none { IfOk result (λ o. IfNone o (is_told reader (head_failure_lem head.now) ≡ false)) }
-        ensures told { IfOk result (λ o. IfSome o (λ l. IsMissing (readers_of reader) head.now l.0)) }
+        ensures none { IfOk result (λ o. IfNone o (is_told readers.now.code (head_failure_lem head.now) ≡ false)) }
+        ensures told { IfOk result (λ o. IfSome o (λ l. IsMissing readers.now head.now l.0)) }
         ensures refusal { IfOk result (λ o. IfSome o (λ l. IsRefusal (view_of self.now.scope) held l.0 l.1)) }
         ensures entering { IfOk result (λ o. IfSome o (λ l. IsEntering (before_of held) l.0 l.1)) }
     {
-        let Some(_) = reader else {
+        let Some(_) = readers.code else {
             return Ok(None);
         };
         let Some(failure) = head_failure(head) else {
             return Ok(None);
         };
         let code = Expression::Constant(failure.code());
-        Ok(Some(self.failure(reader, code, offset, held)?))
+        Ok(Some(self.failure(readers, code, offset, held)?))
     }
 
     // The `else` of a declaration. 286 if control can reach its end.
@@ -308,14 +310,14 @@ impl Lowering {
     fn refusal(
         &mut self,
         before: &[Declaration],
-        reader: Option<ValueRegister>,
+        readers: &Readers,
         head: &Head,
         statement: &parsed::Statement,
         held: Held,
     ) -> Result<Option<Lowered>, SyntaxFault>
         requires { IsAt (view_of self.old.scope) held }
         ensures scope { OnOk result (view_of self.new.scope ≡ view_of self.old.scope) }
-        ensures named { IfOk result (IsElseOf before.now (readers_of reader) (names_of self.old.scope) statement.now.form head.now) }
+        ensures named { IfOk result (IsElseOf before.now readers.now (names_of self.old.scope) statement.now.form head.now) }
         ensures refusal { IfOk result (λ o. IfSome o (λ l. IsRefusal (view_of self.old.scope) held l.0 l.1)) }
         ensures entering { IfOk result (λ o. IfSome o (λ l. IsEntering (before_of held) l.0 l.1)) }
     {
@@ -323,9 +325,9 @@ impl Lowering {
             return Ok(None);
         };
         let Some(otherwise) = otherwise else {
-            return self.missing_else(reader, head, statement.offset, held);
+            return self.missing_else(readers, head, statement.offset, held);
         };
-        let (statement, flow) = self.block(before, reader, &otherwise.body, held)?;
+        let (statement, flow) = self.block(before, readers, &otherwise.body, held)?;
         if flow.after.is_some() {
             return Err(SyntaxFault::at(Wrong::ElseEnds, otherwise.offset));
         }
@@ -337,15 +339,15 @@ impl Lowering {
     fn extend(
         &mut self,
         before: &[Declaration],
-        reader: Option<ValueRegister>,
+        readers: &Readers,
         draft: &mut Draft,
         statement: &parsed::Statement,
         held: Held,
     ) -> Result<Flow, SyntaxFault>
         requires { IsAt (view_of self.old.scope) held }
         ensures named { IfOk result (λ f. (rest : List TextStatement) (items all : List CoreStatement) → MayFollow f rest
-            → AreStatements before.now (readers_of reader) (names_of self.new.scope) rest items → Becomes draft.new items all
-            → IsExtended before.now (readers_of reader) (names_of self.old.scope) statement.now rest draft.old all) }
+            → AreStatements before.now readers.now (names_of self.new.scope) rest items → Becomes draft.new items all
+            → IsExtended before.now readers.now (names_of self.old.scope) statement.now rest draft.old all) }
         ensures draft { (start : Standing) → IsDraft start draft.old (view_of self.old.scope) → (behind_draft start draft.old).after ≡ Some (nodes_of held)
             → OnOk result (IsDraft start draft.new (view_of self.new.scope)) }
         ensures paths { (start : Standing) → (behind_draft start draft.old).after ≡ Some (nodes_of held)
@@ -359,12 +361,12 @@ impl Lowering {
     {
         let offset = statement.offset;
         let Some(head) = self.head(&statement.form, held)? else {
-            let (lowered, flow) = self.statement(before, reader, &statement.form, offset, held)?;
-            let marked = self.marked(reader, lowered, offset)?;
+            let (lowered, flow) = self.statement(before, readers, &statement.form, offset, held)?;
+            let marked = self.marked(readers, lowered, offset)?;
             draft.statements.push(self.at(offset, marked)?)?;
             return Ok(flow);
         };
-        let otherwise = self.refusal(before, reader, &head, statement, held)?;
+        let otherwise = self.refusal(before, readers, &head, statement, held)?;
         let (binding, flow) = self.bound(head, otherwise, held)?;
         let earlier = std::mem::replace(&mut draft.statements, Vec::new(self.alloc));
         draft.opened.push(Opened {
@@ -380,7 +382,7 @@ impl Lowering {
     fn statement(
         &mut self,
         before: &[Declaration],
-        reader: Option<ValueRegister>,
+        readers: &Readers,
         form: &StatementForm,
         offset: usize,
         held: Held,
@@ -388,27 +390,24 @@ impl Lowering {
         requires { IsAt (view_of self.old.scope) held }
         ensures scope { OnOk result (view_of self.new.scope ≡ view_of self.old.scope) }
         ensures named { IfOk result (λ l. opens form.now ≡ false
-            → IsStatement before.now (readers_of reader) (names_of self.old.scope) form.now l.0) }
+            → IsStatement before.now readers.now (names_of self.old.scope) form.now l.0) }
         ensures lowered { IfOk result (λ l. IsLowered (view_of self.old.scope) held l.0 l.1) }
         ensures entering { IfOk result (λ l. IsEntering (before_of held) l.0 l.1) }
     {
         match form {
             StatementForm::Act(action, otherwise) => match otherwise {
-                None => self.acted(before, reader, action, offset, held),
+                None => self.acted(before, readers, action, offset, held),
                 Some(otherwise) => {
-                    let lowered = self.acted(before, None, action, offset, held)?;
-                    self.handled(before, reader, lowered, &otherwise.body, held)
+                    let unread = readers.unread();
+                    let lowered = self.acted(before, &unread, action, offset, held)?;
+                    self.handled(before, readers, lowered, &otherwise.body, held)
                 }
             },
             StatementForm::Try(why, body, handler) => {
-                self.tried(before, reader, why, body, handler, held)
+                self.tried(before, readers, why, body, handler, held)
             }
             StatementForm::If(question, body, otherwise) => {
-                let entrance = self.entrance(question, held)?;
-                let reader_inside = reader;
-                let first = self.first_block(before, reader_inside, &entrance, body, held)?;
-                let second = self.block(before, reader, otherwise, held)?;
-                self.chosen(entrance, first, second, held)
+                self.choice(before, readers, question, body, otherwise, held)
             }
             StatementForm::Repeat {
                 turns,
@@ -416,7 +415,7 @@ impl Lowering {
                 body,
             } => {
                 let repetition = self.repetition(turns, at_most.as_ref(), offset, held)?;
-                self.turns(before, reader, repetition, body, offset, held)
+                self.turns(before, readers, repetition, body, offset, held)
             }
             StatementForm::ForEach {
                 child,
@@ -427,9 +426,18 @@ impl Lowering {
             } => {
                 let names = (*child, *index, *parent);
                 let repetition = self.visit(names, at_most, offset, held)?;
-                self.turns(before, reader, repetition, body, offset, held)
+                self.turns(before, readers, repetition, body, offset, held)
             }
-            StatementForm::Block(body) => self.block(before, reader, body, held),
+            StatementForm::Block(body) => self.block(before, readers, body, held),
+            StatementForm::Search(turns, names, found, otherwise) => {
+                self.search(
+                    before,
+                    readers,
+                    (turns, names, found, otherwise),
+                    offset,
+                    held,
+                )
+            }
         }
     }
 
@@ -438,7 +446,7 @@ impl Lowering {
     fn acted(
         &mut self,
         before: &[Declaration],
-        reader: Option<ValueRegister>,
+        readers: &Readers,
         action: &Action,
         offset: usize,
         held: Held,
@@ -446,17 +454,18 @@ impl Lowering {
         requires { IsAt (view_of self.old.scope) held }
         ensures scope { OnOk result (view_of self.new.scope ≡ view_of self.old.scope) }
         ensures named { IfOk result (λ l. declares action.now ≡ false
-            → IsActed before.now (readers_of reader) (names_of self.old.scope) action.now l.0) }
+            → IsActed before.now readers.now (names_of self.old.scope) action.now l.0) }
         ensures lowered { IfOk result (λ l. IsLowered (view_of self.old.scope) held l.0 l.1) }
         ensures entering { IfOk result (λ l. IsEntering (before_of held) l.0 l.1) }
     {
         match action {
-            Action::Use { part, arguments } => self.used(before, reader, *part, arguments, held),
-            Action::Require(condition, code) => { self.require(reader, condition, code, held) }
-            Action::Leave(leave) => self.leave(reader, *leave, offset, held),
+            Action::Use { part, arguments } => self.used(before, readers, *part, arguments, held),
+            Action::Require(condition, code) => { self.require(readers, condition, code, held) }
+            Action::Leave(leave) => self.leave(readers, *leave, offset, held),
+            Action::BreakWith(values) => self.break_with(readers, values, offset, held),
             Action::Fail(code) => {
                 let number = self.code(code, held)?;
-                self.failure(reader, number, offset, held)
+                self.failure(readers, number, offset, held)
             }
             _ => self.action(action, offset, held),
         }

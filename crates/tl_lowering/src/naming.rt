@@ -317,7 +317,8 @@ impl Lowering {
             | Action::Use { .. }
             | Action::Require(_, _)
             | Action::Leave(_)
-            | Action::Fail(_) => Ok((Statement::Skip, Flow::on(held))),
+            | Action::Fail(_)
+            | Action::BreakWith(_) => Ok((Statement::Skip, Flow::on(held))),
         }
     }
 

@@ -2,7 +2,6 @@
 
 ghost use Rattle.std.specs.Prelude.{◌≡◌, ℕ, ◌+◌, ◌<◌, ◌≤◌, length, true, false, Some, slice_get, get_or, IfOk, OnOk};
 ghost use Rattle.tl_budget.specs.declared.limits.TheConstants.{MAX_DEPTH};
-ghost use Rattle.tl_lowering.specs.Failing.{readers_of};
 ghost use Rattle.tl_lowering.specs.Entering.{before_of, IsEntering};
 ghost use Rattle.tl_lowering.specs.Fit.{loops};
 ghost use Rattle.tl_lowering.specs.Giving.{IsNodeGiven, IsVariableGiven, IsValueGiven};
@@ -19,6 +18,7 @@ ghost use Rattle.tl_syntax.specs.declared.parsed.Declaration.TheVariants.{Part a
 use crate::lowering::{Lowered, Lowering};
 use crate::paths::Held;
 use crate::program::{Expression, Statement};
+use crate::readers::Readers;
 use crate::scope::Scope;
 use crate::values::{check_registers, registers_of};
 use tl_budget::MAX_DEPTH;
@@ -225,7 +225,7 @@ impl Lowering {
     fn given(
         &mut self,
         using: Using<'_>,
-        reader: Option<ValueRegister>,
+        readers: &Readers,
         parameters: &[Parameter],
         arguments: &[parsed::Expression],
         named: Held,
@@ -236,7 +236,7 @@ impl Lowering {
         requires values { using.outer.now.values ≤ self.old.scope.values }
         requires nodes { using.outer.now.nodes ≡ self.old.scope.nodes }
         requires named { (i n : ℕ) → get_or (view_of self.old.scope).meanings i Nothing ≡ Node n → holds (nodes_of named) n ≡ true }
-        ensures given { IfOk result (λ l. IsGiven using.entry.before.now (readers_of reader) (names_of using.entry.outer.now)
+        ensures given { IfOk result (λ l. IsGiven using.entry.before.now readers.now (names_of using.entry.outer.now)
             (names_of self.old.scope) parameters.now arguments.now using.entry.body.now l.0) }
         ensures lowered { IfOk result (λ l. IsLowered (view_of self.old.scope) held l.0 l.1) }
         ensures entering { IfOk result (λ l. IsEntering (before_of held) l.0 l.1) }
@@ -245,7 +245,7 @@ impl Lowering {
             if !arguments.is_empty() {
                 return Err(SyntaxFault::at(Wrong::Arguments, using.offset));
             }
-            return self.block(using.before, reader, using.body, held);
+            return self.block(using.before, readers, using.body, held);
         };
         let Some((argument, arguments)) = arguments.split_first() else {
             return Err(SyntaxFault::at(Wrong::Arguments, using.offset));
@@ -253,15 +253,15 @@ impl Lowering {
         match *parameter {
             Parameter::Node(name) => {
                 let named = self.give_node(using.outer, name, argument, named, held)?;
-                self.given(using, reader, parameters, arguments, named, held)
+                self.given(using, readers, parameters, arguments, named, held)
             }
             Parameter::Variable(name) => {
                 self.give_variable(using.outer, name, argument, held)?;
-                self.given(using, reader, parameters, arguments, named, held)
+                self.given(using, readers, parameters, arguments, named, held)
             }
             Parameter::Value(name) => {
                 let (register, number) = self.give_value(using.outer, name, argument, held)?;
-                let body = self.given(using, reader, parameters, arguments, named, held)?;
+                let body = self.given(using, readers, parameters, arguments, named, held)?;
                 self.let_in(register, number, body, held)
             }
         }
@@ -272,14 +272,14 @@ impl Lowering {
     pub fn used(
         &mut self,
         before: &[Declaration],
-        reader: Option<ValueRegister>,
+        readers: &Readers,
         name: Name,
         arguments: &[parsed::Expression],
         held: Held,
     ) -> Result<Lowered, SyntaxFault>
         requires { IsAt (view_of self.old.scope) held }
         ensures scope { OnOk result (view_of self.new.scope ≡ view_of self.old.scope) }
-        ensures named { IfOk result (λ l. IsUsed before.now (readers_of reader) (names_of self.old.scope) name arguments.now l.0) }
+        ensures named { IfOk result (λ l. IsUsed before.now readers.now (names_of self.old.scope) name arguments.now l.0) }
         ensures lowered { IfOk result (λ l. IsLowered (view_of self.old.scope) held l.0 l.1) }
         ensures entering { IfOk result (λ l. IsEntering (before_of held) l.0 l.1) }
     {
@@ -293,9 +293,10 @@ impl Lowering {
             body: &part.body,
             offset: name.offset,
         };
+        let inside = readers.in_part();
         let lowered = self.given(
             using,
-            reader,
+            &inside,
             &part.parameters,
             arguments,
             Held::NOTHING,

@@ -20,6 +20,7 @@ use crate::lowering::Lowering;
 use crate::parts::{MAX_PART_SIZE, MAX_WORK};
 use crate::paths::Held;
 use crate::program::{Procedure, Program, Statement};
+use crate::readers::Readers;
 use crate::scope::Scope;
 use indexmap::IndexSet;
 use std::alloc::Global;
@@ -103,24 +104,25 @@ impl Lowering {
         ensures handled { IfOk result (λ s. fails s none_held ≡ []) }
         ensures enters { IfOk result (λ s. EntersOnce s nothing_before) }
     {
+        let nothing = Readers::nothing();
         let Some(why) = procedure.why else {
-            let lowered = self.block(before, None, &procedure.body, Held::NOTHING)?;
+            let lowered = self.block(before, &nothing, &procedure.body, Held::NOTHING)?;
             check_atomic(procedure.is_atomic, &lowered.0, procedure.name.offset)?;
             let (handled, _flow) = self.handled(
                 before,
-                None,
+                &nothing,
                 lowered,
                 &procedure.otherwise,
                 Held::NOTHING,
             )?;
             return self.completed(procedure, handled);
         };
-        let (register, lowered) = self.told(before, why, &procedure.body, Held::NOTHING)?;
+        let (register, lowered) = self.told(before, &nothing, why, &procedure.body, Held::NOTHING)?;
         check_atomic(procedure.is_atomic, &lowered.0, procedure.name.offset)?;
         let named = (why, register);
         let (handled, _flow) = self.heard(
             before,
-            None,
+            &nothing,
             named,
             lowered,
             &procedure.otherwise,

@@ -1,16 +1,16 @@
 // What names stand for.
 
-ghost use Rattle.std.specs.Prelude.{◌≡◌, ◌≢◌, ℕ, ◌+◌, ◌<◌, length, slice_set, get_or, take, drop, true, Some, None, IfOk, OnOk, IfSome};
+ghost use Rattle.std.specs.Prelude.{◌≡◌, ◌≢◌, ℕ, ◌+◌, ◌<◌, ◌≤◌, length, slice_set, get_or, take, drop, true, Some, None, IfOk, OnOk, IfSome};
 ghost use Rattle.tl_instr.specs.declared.operand.TheConstants.{VALUE_REGISTERS, NODE_REGISTERS};
 ghost use Rattle.tl_lowering.specs.declared.scope.Meaning.TheVariants.{Nothing, Value, Node};
-ghost use Rattle.tl_lowering.specs.Names.{names_of, without_meaning, stands_for, field_named, index_of, constant_only, field_before, inside, with_alias, with_variable, with_constant, with_field, with_procedure, with_unnamed, with_index, with_value, with_node};
+ghost use Rattle.tl_lowering.specs.Names.{names_of, without_meaning, stands_for, field_named, index_of, constant_only, field_before, inside, with_alias, with_variable, with_constant, with_field, with_procedure, with_unnamed, with_room, with_index, with_value, with_node};
 ghost use Rattle.tl_lowering.specs.Paths.{nodes_of};
 ghost use Rattle.tl_lowering.specs.Sets.{holds};
 ghost use Rattle.tl_lowering.specs.Scopes.{View, view_of, IsInUse, IsBare, Extends, meaning_of, node_in, forget};
 
 use crate::paths::Held;
 use std::alloc::{AllocError, Global};
-use tl_instr::{Field, NodeRegister, ValueRegister};
+use tl_instr::{Field, NodeRegister, VALUE_REGISTERS, ValueRegister};
 use tl_syntax::parsed::Name;
 use tl_syntax::{Symbol, SyntaxFault, Wrong};
 
@@ -284,6 +284,32 @@ impl Scope {
         self.values = self.values.saturating_add(1);
     }
 
+    /// Adds so many values without names. 291 at `offset` if there aren't so many.
+    pub fn add_values(&mut self, count: usize, offset: usize) -> Result<(), SyntaxFault>
+        ensures in_use { OnOk result (IsInUse (view_of self.old) → IsInUse (view_of self.new)) }
+        ensures room { OnOk result (self.old.values + count ≤ VALUE_REGISTERS) }
+        ensures values { OnOk result (self.new.values ≡ self.old.values + count) }
+        ensures nodes { OnOk result (self.new.nodes ≡ self.old.nodes) }
+        ensures loops { OnOk result (self.new.loops ≡ self.old.loops) }
+        ensures meanings { OnOk result (self.new.meanings.items ≡ self.old.meanings.items) }
+        ensures fields { OnOk result (self.new.fields.items ≡ self.old.fields.items) }
+        ensures procedures { OnOk result (self.new.procedures.items ≡ self.old.procedures.items) }
+        ensures local { OnOk result (self.new.local.items ≡ self.old.local.items) }
+        ensures named { OnOk result (names_of self.new ≡ with_room (names_of self.old) count) }
+    {
+        let values = usize::from(self.values).saturating_add(count);
+        if values > VALUE_REGISTERS {
+            return Err(SyntaxFault::at(Wrong::Values, offset));
+        }
+        match u8::try_from(values) {
+            Ok(values) => {
+                self.values = values;
+                Ok(())
+            }
+            Err(_) => Err(SyntaxFault::at(Wrong::Values, offset)),
+        }
+    }
+
     /// From here on the name owns a node in `register`, which must be the next one.
     pub fn declare_node(&mut self, name: Name, register: NodeRegister) -> Result<(), SyntaxFault>
         requires { register ≡ self.old.nodes }
@@ -316,7 +342,7 @@ impl Scope {
         Ok(())
     }
 
-    /// From here on the name stands for a value that has another name outside of the part.
+    /// From here on the name stands for a value that has another name outside of the part, or none so far.
     pub fn declare_variable(
         &mut self,
         name: Name,
@@ -327,6 +353,8 @@ impl Scope {
         ensures values { OnOk result (self.new.values ≡ self.old.values) }
         ensures nodes { OnOk result (self.new.nodes ≡ self.old.nodes) }
         ensures loops { OnOk result (self.new.loops ≡ self.old.loops) }
+        ensures names { OnOk result ((outer : View) → meaning_of (view_of self.old) name.symbol ≡ Nothing → Extends outer (view_of self.old)
+            → Extends outer (view_of self.new)) }
         ensures named { OnOk result (names_of self.new ≡ with_variable (names_of self.old) name register) }
     {
         self.local.push(name.symbol)?;

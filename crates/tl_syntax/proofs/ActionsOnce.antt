@@ -6,7 +6,6 @@ use Rattle.tl_syntax.specs.declared.token.TokenKind.{TokenKind}
 use Rattle.tl_syntax.specs.declared.token.TokenKind.TheVariants as K
 use Rattle.tl_syntax.specs.declared.parsed.Expression.{Expression}
 use Rattle.tl_syntax.specs.declared.parsed.Form.{Form}
-use Rattle.tl_syntax.specs.declared.parsed.Form.TheVariants as F
 use Rattle.tl_syntax.specs.declared.parsed.Child.{Child}
 use Rattle.tl_syntax.specs.declared.parsed.Place.{Place}
 use Rattle.tl_syntax.specs.declared.parsed.Place.TheVariants as P
@@ -21,11 +20,11 @@ use Rattle.tl_syntax.specs.declared.parsed.Question.{Question}
 use Rattle.tl_syntax.specs.Grammar as G
 use Rattle.tl_syntax.specs.Grammar.{kind_at, offset_at, Stands, IsName, Disjunction, Rule, IsPlain, IsExpression, IsChain}
 use Rattle.tl_syntax.specs.Statements as R
-use Rattle.tl_syntax.specs.Statements.{word_to, IsLeave, IsChange, IsArgument, IsChild, IsPlace, AreExpressions, IsWrite, AreMoreWrites, AreGiven, IsCode, IsReason, IsAction, IsQuestion}
+use Rattle.tl_syntax.specs.Statements.{word_to, word_with, IsLeave, IsChange, IsArgument, IsChild, IsPlace, AreExpressions, IsWrite, AreMoreWrites, AreGiven, IsCode, IsReason, IsAction, IsQuestion}
 use Rattle.tl_syntax.specs.Alike as A
 use Rattle.tl_syntax.specs.Alike.{Alike, AlikeForm, AreAlike, AlikeChild, AlikePlace, AlikeWrite, AlikeWrites, AlikeReason, AlikeAction, AlikeQuestion}
 use Rattle.tl_syntax.proofs.ListsOnce.{Rest, done, step, append, Compared, within, another_compared, list_end}
-use Rattle.tl_syntax.proofs.ExpressionsOnce.{both_kinds, same_end, differ, same_name, same_number, binding, CanFollow, once}
+use Rattle.tl_syntax.proofs.ExpressionsOnce.{both_kinds, same_end, differ, same_name, binding, CanFollow, once}
 
 pub at : (P : ℕ → Type 0) {j k : ℕ} → j ≡ k → P k → P j
 at P e h = subst P (sym e) h
@@ -287,7 +286,7 @@ expressions_begin : {tokens : List Token} {n i j : ℕ} {es : List Expression} �
 expressions_begin (R.one h) = expression_begins h
 expressions_begin (R.one_more a s h) = expressions_begin a
 
-closes : {tokens : List Token} {i j : ℕ} → Stands tokens K.RightParenthesis i j → NoComma tokens i
+pub closes : {tokens : List Token} {i j : ℕ} → Stands tokens K.RightParenthesis i j → NoComma tokens i
 closes s = record { is = ap comma s.kind_is }
 
 given_once : {tokens : List Token} {n m i j k : ℕ} {es fs : List Expression} → AreGiven tokens n i j es → AreGiven tokens m i k fs → (j ≡ k) × AreAlike es fs
@@ -372,6 +371,10 @@ code_once {m = m} {k = end} (R.code h x) a (R.code {e = e2} h2 y) b = once h a m
 no_code : {A : Type 0} {tokens : List Token} {n j k l : ℕ} {e : Expression} → IsCode tokens n j k e → l ≡ j → Ends tokens l → A
 no_code {tokens = tokens} (R.code h x) same f = absurd (omega (arith, expression_begins h, at (λ z. begins (kind_at tokens z) ≡ 0) (sym same) f.no_more))
 
+-- nor the word `with`
+no_with : {A : Type 0} {tokens : List Token} {j k l : ℕ} → Stands tokens word_with j k → l ≡ j → Ends tokens l → A
+no_with {tokens = tokens} s same f = absurd (omega (arith, ap begins s.kind_is, at (λ z. begins (kind_at tokens z) ≡ 0) (sym same) f.no_more))
+
 reason_follows : {tokens : List Token} {n i j : ℕ} {why : Option Expression} → IsReason tokens n i j why → Follows tokens j → Follows tokens i
 reason_follows R.no_reason f = f
 reason_follows (R.reason s c) f = ends s.kind_is refl
@@ -387,6 +390,11 @@ reason_once {tokens} {m = m} {k = end} (R.reason {j = a1} s c) f (R.reason {e = 
     let d' : IsCode tokens m a1 end e2 = at (λ z. IsCode tokens m z end e2) (same_end s t) d in
     let same = code_once c f.follows d' g.follows in
     (same.0, A.reason same.1)
+
+-- `break` or another token
+abbrev breaking : TokenKind → ℕ
+breaking K.Break = 1
+breaking kind = 0
 
 -- the tokens that begin an action
 abbrev pub heading : TokenKind → ℕ
@@ -414,6 +422,7 @@ head (V.Take n m) = 6
 head (V.Free n) = 7
 head (V.Leave l) = 8
 head (V.Fail e) = 8
+head (V.BreakWith es) = 8
 head (V.Use n es) = 2
 
 leave_heading : (tokens : List Token) (l : Leave) (i j : ℕ) → IsLeave tokens i j l → heading (kind_at tokens i) ≡ 8
@@ -433,7 +442,8 @@ action_is (R.takes s n t m) = ap heading s.kind_is
 action_is (R.frees s n) = ap heading s.kind_is
 action_is {tokens} (R.leaves {i = i} {j = j} {l = l} x) = leave_heading tokens l i j x
 action_is (R.fails_with s c) = ap heading s.kind_is
-action_is (R.uses n w s g) = ap heading n.stands.kind_is
+action_is (R.breaks_with s w es) = ap heading s.kind_is
+action_is (R.uses n w v s g) = ap heading n.stands.kind_is
 
 pub action_once : {tokens : List Token} {n m i j k : ℕ} {a b : Action} → IsAction tokens n i j a → Ends tokens j → IsAction tokens m i k b → Ends tokens k → (j ≡ k) × AlikeAction a b
 action_once {tokens} {m = m} {k = end} (R.lets {j = a1} {k = a2} {l = a3} {n = x} {e = e} s n t h) f (R.lets {k = b2} {l = b3} {n = y} {e = e2} s2 n2 t2 h2) g =
@@ -507,18 +517,27 @@ action_once {tokens} {m = m} {k = end} (R.fails_with {j = a1} s c) f (R.fails_wi
     (same.0, A.fails_with same.1)
 action_once {tokens} {i = i} {k = end} (R.fails_with s c) f (R.leaves {l = l} y) g = no_code c (same_end (leave_stands tokens l i end y) s) g
 action_once {tokens} {i = i} {j = j} (R.leaves {l = l} x) f (R.fails_with s c) g = no_code c (same_end (leave_stands tokens l i j x) s) f
-action_once {tokens} {m = m} {k = end} (R.uses {j = a1} {k = a2} {n = x} {es = es} n w s h) f (R.uses {k = b2} {n = y} {es = fs} n2 w2 s2 h2) g =
+action_once {tokens} {m = m} {k = end} (R.breaks_with {j = a1} {k = a2} s w h) f (R.breaks_with {k = b2} {es = fs} s2 w2 h2) g =
+    let w2' : Stands tokens word_with a1 b2 = at (λ z. Stands tokens word_with z b2) (same_end s s2) w2 in
+    let h2' : AreExpressions tokens m a2 end fs.items = at (λ z. AreExpressions tokens m z end fs.items) (same_end w w2') h2 in
+    let same = expressions_once h f.follows f.no_comma h2' g.follows g.no_comma in
+    (same.0, A.breaks_with same.1)
+action_once {tokens} {i = i} {k = end} (R.breaks_with s w h) f (R.leaves {l = l} y) g = no_with w (same_end (leave_stands tokens l i end y) s) g
+action_once {tokens} {i = i} {j = j} (R.leaves {l = l} x) f (R.breaks_with s w h) g = no_with w (same_end (leave_stands tokens l i j x) s) f
+action_once (R.breaks_with s w h) f (R.fails_with t c) g = differ breaking t.kind_is s.kind_is (omega arith)
+action_once (R.fails_with t c) f (R.breaks_with s w h) g = differ breaking t.kind_is s.kind_is (omega arith)
+action_once {tokens} {m = m} {k = end} (R.uses {j = a1} {k = a2} {n = x} {es = es} n w v s h) f (R.uses {k = b2} {n = y} {es = fs} n2 w2 v2 s2 h2) g =
     let s2' : Stands tokens K.LeftParenthesis a1 b2 = at (λ z. Stands tokens K.LeftParenthesis z b2) (same_end n.stands n2.stands) s2 in
     let h2' : AreGiven tokens m a2 end fs.items = at (λ z. AreGiven tokens m z end fs.items) (same_end s s2') h2 in
     let same = given_once h h2' in
     (same.0, subst (λ z. AlikeAction (V.Use x es) (V.Use z fs)) (same_name n n2) (A.uses same.1))
-action_once {tokens} (R.uses n w s h) f (R.assigns {j = b1} {k = b2} {c = c} n2 s2 h2) g =
+action_once {tokens} (R.uses n w v s h) f (R.assigns {j = b1} {k = b2} {c = c} n2 s2 h2) g =
     absurd (omega (arith, change_no_parenthesis tokens c b1 b2 s2, at (λ z. opening (kind_at tokens z) ≡ 1) (same_end n2.stands n.stands) (ap opening s.kind_is)))
-action_once {tokens} (R.assigns {j = a1} {k = a2} {c = c} n s h) f (R.uses n2 w2 s2 h2) g =
+action_once {tokens} (R.assigns {j = a1} {k = a2} {c = c} n s h) f (R.uses n2 w2 v2 s2 h2) g =
     absurd (omega (arith, change_no_parenthesis tokens c a1 a2 s, at (λ z. opening (kind_at tokens z) ≡ 1) (same_end n.stands n2.stands) (ap opening s2.kind_is)))
-action_once {tokens} (R.uses n w s h) f (R.writes (R.write n2 d fd s2 h2) others) g =
+action_once {tokens} (R.uses n w v s h) f (R.writes (R.write n2 d fd s2 h2) others) g =
     absurd (omega (arith, ap opening d.kind_is, at (λ z. opening (kind_at tokens z) ≡ 1) (same_end n2.stands n.stands) (ap opening s.kind_is)))
-action_once {tokens} (R.writes (R.write n d fd s h) others) f (R.uses n2 w2 s2 h2) g =
+action_once {tokens} (R.writes (R.write n d fd s h) others) f (R.uses n2 w2 v2 s2 h2) g =
     absurd (omega (arith, ap opening d.kind_is, at (λ z. opening (kind_at tokens z) ≡ 1) (same_end n.stands n2.stands) (ap opening s2.kind_is)))
 action_once x f y g = absurd (omega (arith, action_is x, action_is y))
 

@@ -1,5 +1,5 @@
 -- What two alike statements or declarations have in common.
-use Rattle.std.proofs.Common.{◌≡◌, ℕ, ℤ, List, [], ◌∷◌, ◌++◌, Option, None, Some, refl, sym, ap, subst, ◌∙◌}
+use Rattle.std.proofs.Common.{◌≡◌, ℕ, List, [], ◌∷◌, ◌++◌, Option, None, Some, refl, sym, ap, subst, ◌∙◌}
 use Rattle.std.specs.declared.vec.Vec.{Vec}
 use Rattle.std.specs.declared.alloc.Global.{Global}
 use Rattle.tl_syntax.specs.declared.parsed.Name.{Name}
@@ -60,6 +60,7 @@ action_rank (V.Free node) = 8
 action_rank (V.Leave l) = 9
 action_rank (V.Use n es) = 10
 action_rank (V.Fail e) = 11
+action_rank (V.BreakWith es) = 12
 
 pub same_action_rank : {a b : Action} → AlikeAction a b → action_rank a ≡ action_rank b
 same_action_rank A.same_action = refl
@@ -71,6 +72,7 @@ same_action_rank (A.requires x y) = refl
 same_action_rank (A.locks x) = refl
 same_action_rank (A.descends x) = refl
 same_action_rank (A.fails_with x) = refl
+same_action_rank (A.breaks_with x) = refl
 same_action_rank (A.uses x) = refl
 
 pub let_of : {n m : Name} {e f : Expression} → AlikeAction (V.Let n e) (V.Let m f) → (n ≡ m) × AlikeForm e.form f.form
@@ -135,6 +137,10 @@ pub emit_of : {es fs : Vec Expression Global} → AlikeAction (V.Emit es) (V.Emi
 emit_of {es} A.same_action = expressions_itself es.items
 emit_of (A.emits x) = x
 
+pub break_of : {es fs : Vec Expression Global} → AlikeAction (V.BreakWith es) (V.BreakWith fs) → AreAlike es.items fs.items
+break_of {es} A.same_action = expressions_itself es.items
+break_of (A.breaks_with x) = x
+
 pub use_of : {n m : Name} {es fs : Vec Expression Global} → AlikeAction (V.Use n es) (V.Use m fs) → (n ≡ m) × AreAlike es.items fs.items
 use_of {es = es} A.same_action = (refl, expressions_itself es.items)
 use_of (A.uses x) = (refl, x)
@@ -159,6 +165,9 @@ opened_for_each child place parent most xs = search the_lemmas
 
 opened_block : (xs : Vec Statement Global) → out-StatementForm (S.Block xs) ≡ Y.Block xs
 opened_block xs = search the_lemmas
+
+opened_search : (turns : Vec Statement Global) (names : Vec Name Global) (found other : Vec Statement Global) → out-StatementForm (S.Search turns names found other) ≡ Y.Search turns names found other
+opened_search turns names found other = search the_lemmas
 
 same_act : {a b : Action} (o p : Option Otherwise) → S.Act a o ≡ S.Act b p → (a ≡ b) × (o ≡ p)
 same_act {a} {b} o p e = let same = sym (opened_act a o) ∙ ap out-StatementForm e ∙ opened_act b p in (cc, cc)
@@ -190,6 +199,11 @@ same_for_each {child} {child'} {parent} {parent'} {place} {place'} {most} {most'
 same_block : {xs vs : Vec Statement Global} → S.Block xs ≡ S.Block vs → xs ≡ vs
 same_block {xs} {vs} e = let same = sym (opened_block xs) ∙ ap out-StatementForm e ∙ opened_block vs in cc
 
+same_search : {names names' : Vec Name Global} {turns found other turns' found' other' : Vec Statement Global} → S.Search turns names found other ≡ S.Search turns' names' found' other' →
+    (names ≡ names') × (turns ≡ turns') × (found ≡ found') × (other ≡ other')
+same_search {names} {names'} {turns} {found} {other} {turns'} {found'} {other'} e =
+    let same = sym (opened_search turns names found other) ∙ ap out-StatementForm e ∙ opened_search turns' names' found' other' in (cc, cc, cc, cc)
+
 -- ---- statements
 
 -- the number of the form's variant
@@ -200,6 +214,7 @@ statement_rank (S.If' r p xs q ys) = 2
 statement_rank (S.Repeat' e most p xs) = 3
 statement_rank (S.ForEach' c i d e p xs) = 4
 statement_rank (S.Block' p xs) = 5
+statement_rank (S.Search' p turns names q found r other) = 6
 
 pub same_statement_rank : {f g : StatementForm} → AlikeStatementForm f g → statement_rank f ≡ statement_rank g
 same_statement_rank (A.act x) = refl
@@ -210,6 +225,7 @@ same_statement_rank (A.repeat a b x y) = refl
 same_statement_rank (A.repeat_at_most a b x m y) = refl
 same_statement_rank (A.for_each a b x y) = refl
 same_statement_rank (A.block_alone a b x) = refl
+same_statement_rank (A.search a b c d e f n x y z) = refl
 
 blocks_of : {xs ys vs ws : Vec Statement Global} → xs ≡ ys → vs ≡ ws → AlikeStatements xs.items vs.items → AlikeStatements ys.items ws.items
 blocks_of {ys = ys} {vs = vs} e f h =
@@ -294,6 +310,13 @@ for_each_of xs vs x e f = cc
 pub block_of : {f g : StatementForm} (xs vs : Vec Statement Global) → AlikeStatementForm f g → f ≡ S.Block xs → g ≡ S.Block vs → AlikeStatements xs.items vs.items
 block_of xs vs (A.block_alone a b x) e f = blocks_of (same_block e) (same_block f) x
 block_of xs vs x e f = cc
+
+pub search_of : {f g : StatementForm} {names names' : Vec Name Global} (turns found other turns' found' other' : Vec Statement Global) → AlikeStatementForm f g → f ≡ S.Search turns names found other →
+    g ≡ S.Search turns' names' found' other' → (names.items ≡ names'.items) × AlikeStatements turns.items turns'.items × AlikeStatements found.items found'.items × AlikeStatements other.items other'.items
+search_of turns found other turns' found' other' (A.search a b c d h i n x y z) e f =
+    let first = same_search e in let second = same_search f in
+    (ap (λ (v : Vec Name Global). v.items) (sym first.0) ∙ n ∙ ap (λ (v : Vec Name Global). v.items) second.0, blocks_of first.1 second.1 x, blocks_of first.2 second.2 y, blocks_of first.3 second.3 z)
+search_of turns found other turns' found' other' x e f = cc
 
 -- ---- lists, from the first item on
 

@@ -6,17 +6,18 @@ use Rattle.tl_syntax.specs.declared.parsed.Name.{Name}
 use Rattle.tl_syntax.specs.declared.parsed.Parameter.{Parameter}
 use Rattle.tl_syntax.specs.declared.parsed.Declaration.{Declaration}
 use Rattle.tl_syntax.specs.Grammar.{Stands, IsName}
+use Rattle.tl_syntax.specs.Statements.{AreNames, one_name, one_name_more}
 use Rattle.tl_syntax.specs.Declarations as R
-use Rattle.tl_syntax.specs.Declarations.{AreNames, AreArguments, IsParameter, AreParameters, AreTaken, IsDeclaration, AreDeclarations}
+use Rattle.tl_syntax.specs.Declarations.{AreArguments, IsParameter, AreParameters, AreTaken, IsDeclaration, AreDeclarations}
 use Rattle.tl_syntax.proofs.StatementLemmas.{pushed_first}
 
 pub first_name : {tokens : List Token} {i j : ℕ} {n : Name} {old new : List Name} → new ≡ old ++ n ∷ [] → old ≡ [] →
     IsName tokens i j n → AreNames tokens i j new
-first_name {tokens} {i} {j} p o h = subst (λ ns. AreNames tokens i j ns) (sym (pushed_first p o)) (R.one h)
+first_name {tokens} {i} {j} p o h = subst (λ ns. AreNames tokens i j ns) (sym (pushed_first p o)) (one_name h)
 
 pub next_name : {tokens : List Token} {i j k l : ℕ} {n : Name} {old new : List Name} → new ≡ old ++ n ∷ [] →
     AreNames tokens i j old → Stands tokens K.Comma j k → IsName tokens k l n → AreNames tokens i l new
-next_name {tokens} {i} {l = l} p a b h = subst (λ ns. AreNames tokens i l ns) (sym p) (R.one_more a b h)
+next_name {tokens} {i} {l = l} p a b h = subst (λ ns. AreNames tokens i l ns) (sym p) (one_name_more a b h)
 
 pub no_arguments : {tokens : List Token} {i j : ℕ} {ns : List Name} → ns ≡ [] → Stands tokens K.RightParenthesis i j → AreArguments tokens i j ns
 no_arguments {tokens} {i} {j} e h = subst (λ ns. AreArguments tokens i j ns) (sym e) (R.none h)

@@ -16,77 +16,28 @@ use Rattle.tl_syntax.specs.declared.parser.TheConstants.{MAX_LEVELS}
 use Rattle.tl_syntax.specs.Grammar.{kind_at, Stands, IsName, IsExpression, Disjunction}
 use Rattle.tl_syntax.specs.Statements.{IsBlock, IsOptionalName}
 use Rattle.tl_syntax.specs.Declarations as D
-use Rattle.tl_syntax.specs.Declarations.{AreNames, AreArguments, IsMark, IsProcedure, names_something, IsParameter, AreParameters, AreTaken, IsPart, IsDeclaration, AreDeclarations, IsFile}
+use Rattle.tl_syntax.specs.Declarations.{AreArguments, IsMark, IsProcedure, names_something, IsParameter, AreParameters, AreTaken, IsPart, IsDeclaration, AreDeclarations, IsFile}
 use Rattle.tl_syntax.specs.Alike as A
 use Rattle.tl_syntax.specs.Alike.{AlikeStatements, AlikeProcedure, AlikePart, AlikeDeclaration, AlikeDeclarations}
 use Rattle.tl_syntax.proofs.ListsOnce.{Rest, done, append, Compared, within, another_compared, list_end}
 use Rattle.tl_syntax.proofs.ExpressionsOnce.{same_end, differ, same_name, once}
-use Rattle.tl_syntax.proofs.ActionsOnce.{at, ends, NoComma, some_comma, comma}
+use Rattle.tl_syntax.proofs.ActionsOnce.{at, ends, some_comma, closes}
+use Rattle.tl_syntax.proofs.NameListsOnce.{Anything, names_once, names_start}
 use Rattle.tl_syntax.proofs.StatementsOnce.{NoElse, some_else, no_else, parting as brace, optional_once, block_starts, block_once}
 
--- ---- names
-
--- a comma and a name
-record IsItem (tokens : List Token) (i k : ℕ) (n : Name) : Type 0 where
-  middle : ℕ
-  stands : Stands tokens K.Comma i middle
-  is : IsName tokens middle k n
-
-record Parts (tokens : List Token) (i k : ℕ) (ns : List Name) : Type 0 where
-  middle : ℕ
-  first_name : Name
-  first : IsName tokens i middle first_name
-  rest : Rest (IsItem tokens) middle (first_name ∷ []) k ns
-
-parts : {tokens : List Token} {i k : ℕ} {ns : List Name} → AreNames tokens i k ns → Parts tokens i k ns
-parts (D.one {j = j} {n = n} h) = record { middle = j; first_name = n; first = h; rest = done }
-parts (D.one_more {k = k} a s h) =
-    let p = parts a in record { middle = p.middle; first_name = p.first_name; first = p.first; rest = append p.rest (record { middle = k; stands = s; is = h }) }
-
-abbrev Anything : ℕ → Type 0
-Anything i = Unit {0}
-
-abbrev SameNames : List Name → List Name → Type 0
-SameNames ns ms = ns ≡ ms
-
-item_once : (tokens : List Token) (j k : ℕ) (n : Name) → IsItem tokens j k n → Anything k → (l : ℕ) (m : Name) → IsItem tokens j l m → Anything l → (k ≡ l) × (n ≡ m)
-item_once tokens j k n x a l m y b =
-    let is : IsName tokens x.middle l m = at (λ z. IsName tokens z l m) (same_end x.stands y.stands) y.is in
-    (same_end x.is.stands is.stands, same_name x.is is)
-
-pushed_same : (ns ms : List Name) (n m : Name) → SameNames ns ms → n ≡ m → SameNames (ns ++ n ∷ []) (ms ++ m ∷ [])
-pushed_same ns ms n m e f = ap (λ l. l ++ n ∷ []) e ∙ ap (λ x. ms ++ x ∷ []) f
-
-names_compared : {tokens : List Token} {i j : ℕ} {ns : List Name} → AreNames tokens i j ns → (k : ℕ) (ms : List Name) → Parts tokens i k ms →
-    Compared (IsItem tokens) SameNames j ns k ms
-names_compared {tokens} (D.one h) k ms p =
-    within (at (λ z. Rest (IsItem tokens) z (p.first_name ∷ []) k ms) (same_end h.stands p.first.stands) p.rest) (ap (λ n. n ∷ []) (same_name h p.first))
-names_compared {tokens} (D.one_more {j = j} {k = m} {l = l} {ns = ns} {n = n} a s h) k ms p =
-    let item : IsItem tokens j l n = record { middle = m; stands = s; is = h } in
-    another_compared (IsItem tokens) (λ x y. x ≡ y) SameNames Anything (λ j k x h. tt) pushed_same j l k ns ms n item (item_once tokens j l n item) tt tt (names_compared a k ms p)
-
-names_once : {tokens : List Token} {i j k : ℕ} {ns ms : List Name} → AreNames tokens i j ns → NoComma tokens j → AreNames tokens i k ms → NoComma tokens k → (j ≡ k) × (ns ≡ ms)
-names_once {j = j} {k = k} {ns = ns} {ms = ms} h a g b =
-    list_end j k ns ms (names_compared h k ms (parts g)) (λ l y q. some_comma q.stands a) (λ l y q. some_comma q.stands b)
-
-names_start : {tokens : List Token} {i j : ℕ} {ns : List Name} → AreNames tokens i j ns → (n : Name) × (kind_at tokens i ≡ K.Name n.symbol)
-names_start (D.one {n = n} h) = (n, h.stands.kind_is)
-names_start (D.one_more a s h) = names_start a
+-- ---- arguments
 
 abbrev closing : TokenKind → ℕ
 closing (K.Name s) = 1
 closing K.RightParenthesis = 2
 closing kind = 0
 
-no_comma : {tokens : List Token} {i j : ℕ} → Stands tokens K.RightParenthesis i j → NoComma tokens i
-no_comma s = record { is = ap comma s.kind_is }
-
 arguments_once : {tokens : List Token} {i j k : ℕ} {ns ms : List Name} → AreArguments tokens i j ns → AreArguments tokens i k ms → (j ≡ k) × (ns ≡ ms)
 arguments_once (D.none s) (D.none t) = (same_end s t, refl)
 arguments_once (D.none s) (D.some a t) = differ closing (names_start a).1 s.kind_is (omega arith)
 arguments_once (D.some a s) (D.none t) = differ closing (names_start a).1 t.kind_is (omega arith)
 arguments_once {tokens} {k = end} (D.some {j = a1} a s) (D.some b t) =
-    let same = names_once a (no_comma s) b (no_comma t) in
+    let same = names_once a (closes s) b (closes t) in
     let t' : Stands tokens K.RightParenthesis a1 end = at (λ z. Stands tokens K.RightParenthesis z end) same.0 t in
     (same_end s t', same.1)
 
@@ -241,12 +192,12 @@ taken_once (D.none_taken s) (D.none_taken t) = (same_end s t, refl)
 taken_once (D.none_taken s) (D.some_taken a t) = absurd (omega (arith, parameters_start a, ap parting s.kind_is))
 taken_once (D.some_taken a s) (D.none_taken t) = absurd (omega (arith, parameters_start a, ap parting t.kind_is))
 taken_once {tokens} {k = end} {ps = ps} {qs = qs} (D.some_taken {j = a1} a s) (D.some_taken {j = b1} b t) =
-    let same = list_end a1 b1 ps qs (parameters_compared a b1 qs (split b)) (λ l y q. some_comma q.stands (no_comma s)) (λ l y q. some_comma q.stands (no_comma t)) in
+    let same = list_end a1 b1 ps qs (parameters_compared a b1 qs (split b)) (λ l y q. some_comma q.stands (closes s)) (λ l y q. some_comma q.stands (closes t)) in
     let t' : Stands tokens K.RightParenthesis a1 end = at (λ z. Stands tokens K.RightParenthesis z end) same.0 t in
     (same_end s t', same.1)
 
 part_once : {tokens : List Token} {i j k : ℕ} {p q : Part} → IsPart tokens i j p → IsPart tokens i k q → (j ≡ k) × AlikePart p q
-part_once {tokens} {k = end} {q = q} (D.part {j = a1} {k = a2} {l = a3} {m = a4} s n w t a b r z) (D.part {k = b2} {l = b3} {m = b4} s2 n2 w2 t2 x2 y2 r2 z2) =
+part_once {tokens} {k = end} {q = q} (D.part {j = a1} {k = a2} {l = a3} {m = a4} s n w v t a b r z) (D.part {k = b2} {l = b3} {m = b4} s2 n2 w2 v2 t2 x2 y2 r2 z2) =
     let n2' : IsName tokens a1 b2 q.name = at (λ z. IsName tokens z b2 q.name) (same_end s s2) n2 in
     let t2' : Stands tokens K.LeftParenthesis a2 b3 = at (λ z. Stands tokens K.LeftParenthesis z b3) (same_end n.stands n2'.stands) t2 in
     let x2' : AreTaken tokens a3 b4 q.parameters.items = at (λ z. AreTaken tokens z b4 q.parameters.items) (same_end t t2') x2 in
@@ -286,13 +237,13 @@ rank_is : {tokens : List Token} {i j : ℕ} {d : Declaration} (x : IsDeclaration
 rank_is (D.field s n t m u) = ap declares s.kind_is
 rank_is (D.constant s n t m u) = ap declares s.kind_is
 rank_is (D.procedures p) = procedure_starts p
-rank_is (D.parts (D.part s n w t a b r z)) = ap declares s.kind_is
+rank_is (D.parts (D.part s n w v t a b r z)) = ap declares s.kind_is
 
 some_rank : {tokens : List Token} {i j : ℕ} {d : Declaration} → IsDeclaration tokens i j d → 1 ≤ declares (kind_at tokens i)
 some_rank (D.field s n t m u) = omega (arith, ap declares s.kind_is)
 some_rank (D.constant s n t m u) = omega (arith, ap declares s.kind_is)
 some_rank (D.procedures p) = omega (arith, procedure_starts p)
-some_rank (D.parts (D.part s n w t a b r z)) = omega (arith, ap declares s.kind_is)
+some_rank (D.parts (D.part s n w v t a b r z)) = omega (arith, ap declares s.kind_is)
 
 declaration_once : {tokens : List Token} {i j k : ℕ} {d e : Declaration} → IsDeclaration tokens i j d → NoElse tokens j → IsDeclaration tokens i k e → NoElse tokens k →
     (j ≡ k) × AlikeDeclaration d e

@@ -57,6 +57,13 @@ same_kind (K.Name s) (K.Name r) e = ap (λ n. K.Name (record { 0 = n })) (eqb-tr
 same_kind (K.Number n) (K.Number m) e = ap K.Number (eqb-true n m e)
 same_kind _ _ e = absurd (true≢false (sym e))
 
+-- and a word and a parenthesis are found equal to themselves
+pub same_word : (a : TokenKind) (n : ℕ) → a ≡ K.Name (record { 0 = n }) → eq-value.it a (K.Name (record { 0 = n })) ≡ true
+same_word a n e = ap (λ z. eq-value.it z (K.Name (record { 0 = n }))) e ∙ eq-eqb n n refl
+
+pub same_parenthesis : (a : TokenKind) → a ≡ K.LeftParenthesis → eq-value.it a K.LeftParenthesis ≡ true
+same_parenthesis a e = ap (λ z. eq-value.it z K.LeftParenthesis) e
+
 symbol_of : TokenKind → ℕ
 symbol_of (K.Name s) = s.0
 symbol_of kind = 0

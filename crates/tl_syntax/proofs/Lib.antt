@@ -8,6 +8,7 @@ pub mod ExpressionsOnce
 pub mod KindLemmas
 pub mod ListsOnce
 pub mod NameLemmas
+pub mod NameListsOnce
 pub mod NamesOnce
 pub mod NumberingLemmas
 mod Rows

@@ -1,5 +1,5 @@
 -- The rules for pushing a statement that was read to a list, where the list is given by an equation.
-use Rattle.std.proofs.Common.{◌≡◌, ℕ, ℤ, List, [], ◌∷◌, ◌++◌, Option, None, Some, true, sym, ap, subst, ◌∙◌}
+use Rattle.std.proofs.Common.{◌≡◌, ◌≢◌, ℕ, ℤ, List, [], ◌∷◌, ◌++◌, Option, None, Some, true, sym, ap, subst, ◌∙◌}
 use Rattle.tl_syntax.specs.declared.token.Token.{Token}
 use Rattle.tl_syntax.specs.declared.token.TokenKind.TheVariants as K
 use Rattle.tl_syntax.specs.declared.parsed.Expression.{Expression}
@@ -18,7 +18,7 @@ use Rattle.tl_syntax.specs.declared.parsed.StatementForm.{StatementForm}
 use Rattle.tl_syntax.specs.declared.parsed.StatementForm.TheVariants as S
 use Rattle.tl_syntax.specs.Grammar.{kind_at, offset_at, Stands, IsExpression, Disjunction}
 use Rattle.tl_syntax.specs.Statements as R
-use Rattle.tl_syntax.specs.Statements.{AreExpressions, IsLeaving, IsWrite, AreMoreWrites, AreGiven, IsAction, leaves_block, IsOptionalName, failure_of, IsTold, IsElsed, IsBlock, IsForm, AreStatements, IsStatement, IsOnly, AreTwo, MayEnd, IsOther, IsOtherwise}
+use Rattle.tl_syntax.specs.Statements.{AreExpressions, IsLeaving, IsWrite, AreMoreWrites, AreGiven, IsAction, leaves_block, IsOptionalName, failure_of, IsTold, IsElsed, IsBlock, IsNotFound, IsForm, AreStatements, IsStatement, IsOnly, AreTwo, MayEnd, IsOther, IsOtherwise}
 
 pub pushed_first : {A : Type 0} {old new : List A} {x : A} → new ≡ old ++ x ∷ [] → old ≡ [] → new ≡ x ∷ []
 pushed_first {x = x} e o = e ∙ ap (λ l. l ++ x ∷ []) o
@@ -52,6 +52,9 @@ two_pushed {offset} {form = form} {other = other} e (R.only a b) c d f = subst (
 pub leaving_only : {tokens : List Token} {levels i j k offset : ℕ} {a : Action} {all : List Statement} → IsOnly offset (S.Act a None) all →
     IsAction tokens levels i j a → leaves_block a ≡ true → Stands tokens K.Semicolon j k → offset ≡ offset_at tokens i → IsLeaving tokens levels i k all
 leaving_only (R.only f g) h l b o = R.leaving h l b f (g ∙ o)
+
+pub none_found : {tokens : List Token} {levels i : ℕ} {all : List Statement} → all ≡ [] → kind_at tokens i ≢ K.Else → IsNotFound tokens levels i i all
+none_found {tokens} {levels} {i} e none = subst (λ all. IsNotFound tokens levels i i all) (sym e) (R.nothing_else none)
 
 pub no_statements : {tokens : List Token} {levels i : ℕ} {all : List Statement} → all ≡ [] → AreStatements tokens levels i i all
 no_statements {tokens} {levels} {i} e = subst (λ all. AreStatements tokens levels i i all) (sym e) R.no_more

@@ -16,19 +16,19 @@ use Rattle.tl_syntax.specs.declared.parsed.Change.TheVariants as C
 use Rattle.tl_syntax.specs.declared.parsed.Leave.{Leave}
 use Rattle.tl_syntax.specs.declared.parsed.Leave.TheVariants as L
 use Rattle.tl_syntax.specs.declared.parsed.Action.{Action}
-use Rattle.tl_syntax.specs.declared.parsed.Action.TheVariants as V
 use Rattle.tl_syntax.specs.declared.parsed.Otherwise.{Otherwise, out-Otherwise}
 use Rattle.tl_syntax.specs.declared.parsed.Statement.{Statement}
 use Rattle.tl_syntax.specs.declared.parsed.StatementForm.{StatementForm}
 use Rattle.tl_syntax.specs.declared.parsed.StatementForm.TheVariants as S
 use Rattle.tl_syntax.specs.Grammar.{kind_at, offset_at, Stands, IsName, Disjunction, IsExpression}
 use Rattle.tl_syntax.specs.Statements as R
-use Rattle.tl_syntax.specs.Statements.{word_at, word_most, word_each, word_of, word_while, IsLeave, IsChange, IsAction, IsQuestion, IsOptionalName, IsLeaving, IsTold, IsElsed, failure_of, IsBlock, AreStatements, IsStatement, IsForm, IsOnly, AreTwo, IsBoundedLoop, RequiresNot, IsWhile, IsLooped, MayEnd, IsOther, IsOtherwise}
+use Rattle.tl_syntax.specs.Statements.{word_at, word_most, word_each, word_of, word_while, word_found, IsLeave, IsChange, IsAction, IsQuestion, IsOptionalName, AreFoundNames, BeginsFound, IsNotFound, IsLeaving, IsTold, IsElsed, failure_of, IsBlock, AreStatements, IsStatement, IsForm, IsLoop, IsOnly, AreTwo, IsBoundedLoop, RequiresNot, IsWhile, IsLooped, MayEnd, IsOther, IsOtherwise}
 use Rattle.tl_syntax.specs.Alike as A
 use Rattle.tl_syntax.specs.Alike.{Alike, AlikeForm, AlikeAction, AlikeStatements, AlikeStatement, AlikeStatementForm, AlikeOtherwise}
 use Rattle.tl_syntax.proofs.ListsOnce.{Rest, done, append, Compared, within, another_compared, list_end}
 use Rattle.tl_syntax.proofs.ExpressionsOnce.{same_end, differ, same_name, once}
-use Rattle.tl_syntax.proofs.ActionsOnce.{at, ends, begins, expression_begins, ends_here, heading, action_is, action_once, question_once}
+use Rattle.tl_syntax.proofs.ActionsOnce.{at, ends, begins, expression_begins, closes, ends_here, heading, action_is, action_once, question_once}
+use Rattle.tl_syntax.proofs.NameListsOnce.{names_once}
 
 leaving_once : {tokens : List Token} {n m i j k : ℕ} {ss ts : List Statement} → IsLeaving tokens n i j ss → IsLeaving tokens m i k ts → (j ≡ k) × AlikeStatements ss ts
 leaving_once {tokens} {k = end} (R.leaving {j = a1} x l s form o) (R.leaving y r t form2 o2) =
@@ -51,8 +51,8 @@ starting K.Fail = 1
 starting K.Try = 2
 starting K.If = 3
 starting K.Repeat = 4
-starting K.For = 5
-starting K.LeftBrace = 6
+starting K.For = 4
+starting K.LeftBrace = 5
 starting kind = 0
 
 abbrev form_rank : {tokens : List Token} {n i j : ℕ} {f : StatementForm} → IsForm tokens n i j f → ℕ
@@ -61,10 +61,9 @@ form_rank (R.act_else a e o d) = 1
 form_rank (R.try body other s b t n c) = 2
 form_rank (R.if body other s q b e) = 3
 form_rank (R.if_else body other s q b t c) = 3
-form_rank (R.repeat body s e b) = 4
-form_rank (R.repeat_at_most body s e a m c b) = 4
-form_rank (R.for_each body s t c n x u p v w m b) = 5
-form_rank (R.block_alone body b) = 6
+form_rank (R.loop x b) = 4
+form_rank (R.search turns found other names x o s n b e) = 4
+form_rank (R.block_alone body b) = 5
 form_rank (R.while body all s h b c) = 1
 
 leave_starting : (tokens : List Token) (l : Leave) (i j : ℕ) → IsLeave tokens i j l → starting (kind_at tokens i) ≡ 1
@@ -84,10 +83,16 @@ action_starting (R.takes s n t m) = ap starting s.kind_is
 action_starting (R.frees s n) = ap starting s.kind_is
 action_starting {tokens} (R.leaves {i = i} {j = j} {l = l} x) = leave_starting tokens l i j x
 action_starting (R.fails_with s c) = ap starting s.kind_is
-action_starting (R.uses n w s g) = ap starting n.stands.kind_is
+action_starting (R.breaks_with s w es) = ap starting s.kind_is
+action_starting (R.uses n w v s g) = ap starting n.stands.kind_is
 
 pub block_starts : {tokens : List Token} {n i j : ℕ} {ss : List Statement} → IsBlock tokens n i j ss → kind_at tokens i ≡ K.LeftBrace
 block_starts (R.block s a t) = s.kind_is
+
+loop_is : {tokens : List Token} {n i j : ℕ} {f : StatementForm} → IsLoop tokens n i j f → starting (kind_at tokens i) ≡ 4
+loop_is (R.repeat body s e b) = ap starting s.kind_is
+loop_is (R.repeat_at_most body s e a m c b) = ap starting s.kind_is
+loop_is (R.for_each body s t c n x u p v w m b) = ap starting s.kind_is
 
 form_is : {tokens : List Token} {n i j : ℕ} {f : StatementForm} (x : IsForm tokens n i j f) → starting (kind_at tokens i) ≡ form_rank x
 form_is (R.act a s) = action_starting a
@@ -95,9 +100,8 @@ form_is (R.act_else a e o d) = action_starting a
 form_is (R.try body other s b t n c) = ap starting s.kind_is
 form_is (R.if body other s q b e) = ap starting s.kind_is
 form_is (R.if_else body other s q b t c) = ap starting s.kind_is
-form_is (R.repeat body s e b) = ap starting s.kind_is
-form_is (R.repeat_at_most body s e a m c b) = ap starting s.kind_is
-form_is (R.for_each body s t c n x u p v w m b) = ap starting s.kind_is
+form_is (R.loop x b) = loop_is x
+form_is (R.search turns found other names x o s n b e) = loop_is x
 form_is (R.block_alone body b) = ap starting (block_starts b)
 form_is (R.while body all s h b c) = ap starting s.kind_is
 
@@ -107,9 +111,8 @@ some_rank (R.act_else a e o d) = omega arith
 some_rank (R.try body other s b t n c) = omega arith
 some_rank (R.if body other s q b e) = omega arith
 some_rank (R.if_else body other s q b t c) = omega arith
-some_rank (R.repeat body s e b) = omega arith
-some_rank (R.repeat_at_most body s e a m c b) = omega arith
-some_rank (R.for_each body s t c n x u p v w m b) = omega arith
+some_rank (R.loop x b) = omega arith
+some_rank (R.search turns found other names x o s n b e) = omega arith
 some_rank (R.block_alone body b) = omega arith
 some_rank (R.while body all s h b c) = omega arith
 
@@ -148,7 +151,7 @@ no_while {tokens = tokens} (R.assigns {j = a1} {k = a2} {c = c} n s h) t e =
     absurd (omega (arith, change_begins tokens c a1 a2 s, at (λ z. begins (kind_at tokens z) ≡ 1) (same_end n.stands t) (expression_begins e)))
 no_while {tokens = tokens} (R.writes (R.write n d f c e) others) t h =
     absurd (omega (arith, ap begins d.kind_is, at (λ z. begins (kind_at tokens z) ≡ 1) (same_end n.stands t) (expression_begins h)))
-no_while (R.uses n w s g) t e = absurd (w (sym n.stands.kind_is ∙ t.kind_is))
+no_while (R.uses n w v s g) t e = absurd (w (sym n.stands.kind_is ∙ t.kind_is))
 no_while x t e = absurd (omega (arith, action_is x, ap heading t.kind_is))
 
 only_alike : {offset : ℕ} {f g : StatementForm} {ss ts : List Statement} → IsOnly offset f ss → IsOnly offset g ts → AlikeStatementForm f g → AlikeStatements ss ts
@@ -231,6 +234,35 @@ optional_once {tokens} {k = end} (R.some_name {j = a1} {k = a2} a n b) s (R.some
     let d' : Stands tokens K.RightParenthesis a2 end = at (λ z. Stands tokens K.RightParenthesis z end) (same_end n.stands m'.stands) d in
     (same_end b d', ap Some (same_name n m'))
 
+-- the two kinds of loops
+abbrev looping : TokenKind → ℕ
+looping K.Repeat = 1
+looping K.For = 2
+looping kind = 0
+
+abbrev loop_rank : {tokens : List Token} {n i j : ℕ} {f : StatementForm} → IsLoop tokens n i j f → ℕ
+loop_rank (R.repeat body s e b) = 1
+loop_rank (R.repeat_at_most body s e a m c b) = 1
+loop_rank (R.for_each body s t c n x u p v w m b) = 2
+
+loop_begins : {tokens : List Token} {n i j : ℕ} {f : StatementForm} (x : IsLoop tokens n i j f) → looping (kind_at tokens i) ≡ loop_rank x
+loop_begins (R.repeat body s e b) = ap looping s.kind_is
+loop_begins (R.repeat_at_most body s e a m c b) = ap looping s.kind_is
+loop_begins (R.for_each body s t c n x u p v w m b) = ap looping s.kind_is
+
+found_once : {tokens : List Token} {i j k : ℕ} {ns ms : List Name} → AreFoundNames tokens i j ns → AreFoundNames tokens i k ms → (j ≡ k) × (ns ≡ ms)
+found_once {tokens} {k = end} (R.found_names {j = a1} {k = a2} s ns t) (R.found_names {k = b2} {ns = ms} s2 ms2 t2) =
+    let ms2' : R.AreNames tokens a1 b2 ms = at (λ z. R.AreNames tokens z b2 ms) (same_end s s2) ms2 in
+    let same = names_once ns (closes t) ms2' (closes t2) in
+    let t2' : Stands tokens K.RightParenthesis a2 end = at (λ z. Stands tokens K.RightParenthesis z end) same.0 t2 in
+    (same_end t t2', same.1)
+
+-- where `found` belongs to a loop no loop ends without it
+found_begins : {A : Type 0} {tokens : List Token} {i j k : ℕ} {ns : List Name} → Stands tokens word_found i j → AreFoundNames tokens j k ns →
+    (BeginsFound tokens i → ⊥) → A
+found_begins {tokens = tokens} s (R.found_names t ns u) none =
+    absurd (none (record { found = s.kind_is; opens = subst (λ z. kind_at tokens z ≡ K.LeftParenthesis) s.next_is t.kind_is }))
+
 -- no `break`, `return` or `fail` stands where a block does, or a name before it
 no_leaving : {A : Type 0} {tokens : List Token} {n i j k : ℕ} {why : Option Name} {ss : List Statement} → IsOptionalName tokens i j why → IsBlock tokens n j k ss →
     starting (kind_at tokens i) ≡ 1 → A
@@ -251,6 +283,7 @@ failure_once (A.locks (A.child x)) = refl
 failure_once (A.locks (A.pair x y)) = refl
 failure_once (A.descends x) = refl
 failure_once (A.fails_with x) = refl
+failure_once (A.breaks_with x) = refl
 failure_once (A.uses x) = refl
 
 told_once : {why : Name} {f g : Failure} {xs ys : Vec Statement Global} {ss ts : List Statement} → f ≡ g → AlikeStatements xs.items ys.items → IsTold why f xs ss → IsTold why g ys ts →
@@ -359,23 +392,61 @@ mutual
       let o2' : IsOther tokens m a4 end other2.items = at (λ z. IsOther tokens m z end other2.items) (same_end t t2') o2 in
       let second = other_once o f o2' g in
       (second.0, A.if body other body2 other2 asked.1 first.1 second.1)
-  form_once {tokens} {m = m} {k = end} (R.repeat {j = a1} {k = a2} body s e b) f (R.repeat {k = b2} {turns = e2} body2 s2 h2 b') g =
+  form_once (R.loop x none) f (R.loop y none2) g = loop_once x y
+  form_once {tokens} (R.loop x none) f (R.search {k = b2} turns found other names y o s n b e) g =
+      found_begins (at (λ z. Stands tokens word_found z b2) (loop_once x y).0 s) n none
+  form_once {tokens} (R.search {k = a2} turns found other names x o s n b e) f (R.loop y none) g =
+      found_begins (subst (λ z. Stands tokens word_found z a2) (loop_once x y).0 s) n none
+  form_once {tokens} {m = m} {k = end} (R.search {j = a1} {k = a2} {l = a3} {m = a4} turns found other names x o s n b e) f (R.search {j = b1} {k = b2} {l = b3} {m = b4} turns2 found2 other2 names2 y o2 s2 n2 b' e2) g =
+      let loop = loop_once x y in
+      let s2' : Stands tokens word_found a1 b2 = at (λ z. Stands tokens word_found z b2) loop.0 s2 in
+      let n2' : AreFoundNames tokens a2 b3 names2.items = at (λ z. AreFoundNames tokens z b3 names2.items) (same_end s s2') n2 in
+      let named = found_once n n2' in
+      let b2' : IsBlock tokens m a3 b4 found2.items = at (λ z. IsBlock tokens m z b4 found2.items) named.0 b' in
+      let first = block_once b b2' in
+      let e2' : IsNotFound tokens m a4 end other2.items = at (λ z. IsNotFound tokens m z end other2.items) first.0 e2 in
+      let second = not_found_once e e2' in
+      (second.0, A.search turns found other turns2 found2 other2 named.1 (only_alike o o2 loop.1) first.1 second.1)
+  form_once (R.block_alone body b) f (R.block_alone body2 c) g = let same = block_once b c in (same.0, A.block_alone body body2 same.1)
+  form_once (R.act x s) f (R.while body all t (R.heads e u v m) b c) g = no_while x t e
+  form_once (R.act_else x e o d) f (R.while body all t (R.heads h u v m) b c) g = no_while x t h
+  form_once (R.while body all t (R.heads e u v m) b c) f (R.act x s) g = no_while x t e
+  form_once (R.while body all t (R.heads h u v m) b c) f (R.act_else x e o d) g = no_while x t h
+  form_once {tokens} {i = i} {k = end} (R.while {j = a1} {k = a2} body all s h b u) f (R.while {levels = m} {j = b1} {k = b2} {condition = e2} {most = most2} body2 all2 s2 h2 b' u2) g =
+      let h2' : IsWhile tokens m a1 b2 e2 most2 = at (λ z. IsWhile tokens m z b2 e2 most2) (same_end s s2) h2 in
+      let same = while_once h (block_starts b) h2' (block_starts b') in
+      let d2 : IsBlock tokens m a2 end body2.items = at (λ z. IsBlock tokens m z end body2.items) same.0 b' in
+      let first = block_once b d2 in
+      let u2' : IsLooped tokens m a1 (offset_at tokens i) e2 most2 body2 all2.items = at (λ z. IsLooped tokens m z (offset_at tokens i) e2 most2 body2 all2.items) (same_end s s2) u2 in
+      (first.0, A.block_alone all all2 (looped_once same.1 same.2 first.1 u u2'))
+  form_once x f y g = absurd (omega (arith, form_is x, form_is y))
+
+  not_found_once : {tokens : List Token} {n m i j k : ℕ} {ss ts : List Statement} → IsNotFound tokens n i j ss → IsNotFound tokens m i k ts → (j ≡ k) × AlikeStatements ss ts
+  not_found_once (R.nothing_else none) (R.nothing_else none2) = (refl, A.no_statements)
+  not_found_once (R.nothing_else none) (R.otherwise s b) = absurd (none s.kind_is)
+  not_found_once (R.otherwise s b) (R.nothing_else none) = absurd (none s.kind_is)
+  not_found_once {tokens} {m = m} {k = end} (R.otherwise {j = a1} s b) (R.otherwise {all = ts} s2 b') =
+      let b2' : IsBlock tokens m a1 end ts = at (λ z. IsBlock tokens m z end ts) (same_end s s2) b' in
+      block_once b b2'
+
+  loop_once : {tokens : List Token} {n m i j k : ℕ} {f g : StatementForm} → IsLoop tokens n i j f → IsLoop tokens m i k g → (j ≡ k) × AlikeStatementForm f g
+  loop_once {tokens} {m = m} {k = end} (R.repeat {j = a1} {k = a2} body s e b) (R.repeat {k = b2} {turns = e2} body2 s2 h2 b') =
       let h2' : IsExpression tokens m Disjunction a1 b2 e2 = at (λ z. IsExpression tokens m Disjunction z b2 e2) (same_end s s2) h2 in
       let turns = once e (ends (block_starts b) refl) m b2 e2 h2' (ends (block_starts b') refl) in
       let c2 : IsBlock tokens m a2 end body2.items = at (λ z. IsBlock tokens m z end body2.items) turns.0 b' in
       let first = block_once b c2 in
       (first.0, A.repeat body body2 turns.1 first.1)
-  form_once {tokens} {m = m} (R.repeat {j = a1} {k = a2} body s e b) f (R.repeat_at_most {k = b2} {turns = e2} body2 s2 h2 t u c b') g =
+  loop_once {tokens} {m = m} (R.repeat {j = a1} {k = a2} body s e b) (R.repeat_at_most {k = b2} {turns = e2} body2 s2 h2 t u c b') =
       let h2' : IsExpression tokens m Disjunction a1 b2 e2 = at (λ z. IsExpression tokens m Disjunction z b2 e2) (same_end s s2) h2 in
       let turns = once e (ends (block_starts b) refl) m b2 e2 h2' (ends t.kind_is refl) in
       let there : kind_at tokens a2 ≡ word_at = at (λ z. kind_at tokens z ≡ word_at) turns.0 t.kind_is in
       differ bracing there (block_starts b) (omega arith)
-  form_once {tokens} {m = m} (R.repeat_at_most {j = a1} {k = a2} body s e t u c b) f (R.repeat {k = b2} {turns = e2} body2 s2 h2 b') g =
+  loop_once {tokens} {m = m} (R.repeat_at_most {j = a1} {k = a2} body s e t u c b) (R.repeat {k = b2} {turns = e2} body2 s2 h2 b') =
       let h2' : IsExpression tokens m Disjunction a1 b2 e2 = at (λ z. IsExpression tokens m Disjunction z b2 e2) (same_end s s2) h2 in
       let turns = once e (ends t.kind_is refl) m b2 e2 h2' (ends (block_starts b') refl) in
       let there : kind_at tokens a2 ≡ K.LeftBrace = at (λ z. kind_at tokens z ≡ K.LeftBrace) turns.0 (block_starts b') in
       differ bracing t.kind_is there (omega arith)
-  form_once {tokens} {m = m} {k = end} (R.repeat_at_most {j = a1} {k = a2} {l = a3} {m = a4} {n = a5} body s e t u c b) f (R.repeat_at_most {k = b2} {l = b3} {m = b4} {n = b5} {turns = e2} {most = most2} body2 s2 h2 t2 u2 c2 b') g =
+  loop_once {tokens} {m = m} {k = end} (R.repeat_at_most {j = a1} {k = a2} {l = a3} {m = a4} {n = a5} body s e t u c b) (R.repeat_at_most {k = b2} {l = b3} {m = b4} {n = b5} {turns = e2} {most = most2} body2 s2 h2 t2 u2 c2 b') =
       let h2' : IsExpression tokens m Disjunction a1 b2 e2 = at (λ z. IsExpression tokens m Disjunction z b2 e2) (same_end s s2) h2 in
       let turns = once e (ends t.kind_is refl) m b2 e2 h2' (ends t2.kind_is refl) in
       let t2' : Stands tokens word_at a2 b3 = at (λ z. Stands tokens word_at z b3) turns.0 t2 in
@@ -385,9 +456,9 @@ mutual
       let d2 : IsBlock tokens m a5 end body2.items = at (λ z. IsBlock tokens m z end body2.items) most.0 b' in
       let first = block_once b d2 in
       (first.0, A.repeat_at_most body body2 turns.1 most.1 first.1)
-  form_once {tokens} {m = m} {k = end} (R.for_each {j = a1} {k = a2} {l = a3} {m = a4} {n = a5} {o = a6} {p = a7} {q = a8} {r = a9} {s = a10} {child = x} {parent = y} {place = z1} {most = most1}
-      body s1 s2 s3 n1 i1 s4 n2 s5 s6 c b) f
-      (R.for_each {k = b2} {l = b3} {m = b4} {n = b5} {o = b6} {p = b7} {q = b8} {r = b9} {s = b10} {child = x2} {parent = y2} {place = z2} {most = most2} body2 t1 t2 t3 m1 i2 t4 m2 t5 t6 d b') g =
+  loop_once {tokens} {m = m} {k = end} (R.for_each {j = a1} {k = a2} {l = a3} {m = a4} {n = a5} {o = a6} {p = a7} {q = a8} {r = a9} {s = a10} {child = x} {parent = y} {place = z1} {most = most1}
+      body s1 s2 s3 n1 i1 s4 n2 s5 s6 c b)
+      (R.for_each {k = b2} {l = b3} {m = b4} {n = b5} {o = b6} {p = b7} {q = b8} {r = b9} {s = b10} {child = x2} {parent = y2} {place = z2} {most = most2} body2 t1 t2 t3 m1 i2 t4 m2 t5 t6 d b') =
       let t2' : Stands tokens word_each a1 b2 = at (λ z. Stands tokens word_each z b2) (same_end s1 t1) t2 in
       let t3' : Stands tokens K.Child a2 b3 = at (λ z. Stands tokens K.Child z b3) (same_end s2 t2') t3 in
       let m1' : IsName tokens a3 b4 x2 = at (λ z. IsName tokens z b4 x2) (same_end s3 t3') m1 in
@@ -404,19 +475,7 @@ mutual
       let alike : AlikeStatementForm (S.ForEach x z1 y most1 body) (S.ForEach x z2 y most2 body2) =
       subst (λ z. AlikeStatementForm (S.ForEach x z1 y most1 body) (S.ForEach x z y most2 body2)) place.1 (A.for_each body body2 most.1 first.1) in
       (first.0, subst₂ (λ z w. AlikeStatementForm (S.ForEach x z1 y most1 body) (S.ForEach z z2 w most2 body2)) (same_name n1 m1') (same_name n2 m2') alike)
-  form_once (R.block_alone body b) f (R.block_alone body2 c) g = let same = block_once b c in (same.0, A.block_alone body body2 same.1)
-  form_once (R.act x s) f (R.while body all t (R.heads e u v m) b c) g = no_while x t e
-  form_once (R.act_else x e o d) f (R.while body all t (R.heads h u v m) b c) g = no_while x t h
-  form_once (R.while body all t (R.heads e u v m) b c) f (R.act x s) g = no_while x t e
-  form_once (R.while body all t (R.heads h u v m) b c) f (R.act_else x e o d) g = no_while x t h
-  form_once {tokens} {i = i} {k = end} (R.while {j = a1} {k = a2} body all s h b u) f (R.while {levels = m} {j = b1} {k = b2} {condition = e2} {most = most2} body2 all2 s2 h2 b' u2) g =
-      let h2' : IsWhile tokens m a1 b2 e2 most2 = at (λ z. IsWhile tokens m z b2 e2 most2) (same_end s s2) h2 in
-      let same = while_once h (block_starts b) h2' (block_starts b') in
-      let d2 : IsBlock tokens m a2 end body2.items = at (λ z. IsBlock tokens m z end body2.items) same.0 b' in
-      let first = block_once b d2 in
-      let u2' : IsLooped tokens m a1 (offset_at tokens i) e2 most2 body2 all2.items = at (λ z. IsLooped tokens m z (offset_at tokens i) e2 most2 body2 all2.items) (same_end s s2) u2 in
-      (first.0, A.block_alone all all2 (looped_once same.1 same.2 first.1 u u2'))
-  form_once x f y g = absurd (omega (arith, form_is x, form_is y))
+  loop_once x y = absurd (omega (arith, loop_begins x, loop_begins y))
 
   other_once : {tokens : List Token} {n m i j k : ℕ} {ss ts : List Statement} → IsOther tokens n i j ss → NoElse tokens j → IsOther tokens m i k ts → NoElse tokens k →
       (j ≡ k) × AlikeStatements ss ts

@@ -79,6 +79,7 @@ pub data AlikeAction : Action → Action → Type 0 where
   locks : {p q : Place} → AlikePlace p q → AlikeAction (A.Lock p) (A.Lock q)
   descends : {n : Name} {e f : Expression} → Alike e f → AlikeAction (A.Descend n e) (A.Descend n f)
   fails_with : {e f : Expression} → Alike e f → AlikeAction (A.Fail e) (A.Fail f)
+  breaks_with : {es fs : Vec Expression Global} → AreAlike es.items fs.items → AlikeAction (A.BreakWith es) (A.BreakWith fs)
   uses : {n : Name} {es fs : Vec Expression Global} → AreAlike es.items fs.items → AlikeAction (A.Use n es) (A.Use n fs)
 
 pub data AlikeQuestion : Question → Question → Type 0 where
@@ -107,6 +108,8 @@ mutual
         AlikeStatements body.items body'.items → AlikeStatementForm (S.Repeat e (Some most) body) (S.Repeat f (Some most') body')
     for_each : {child parent : Name} {place : Option Name} {most most' : Expression} (body body' : Vec Statement Global) → Alike most most' →
         AlikeStatements body.items body'.items → AlikeStatementForm (S.ForEach child place parent most body) (S.ForEach child place parent most' body')
+    search : {names names' : Vec Name Global} (turns found other turns' found' other' : Vec Statement Global) → names.items ≡ names'.items → AlikeStatements turns.items turns'.items →
+        AlikeStatements found.items found'.items → AlikeStatements other.items other'.items → AlikeStatementForm (S.Search turns names found other) (S.Search turns' names' found' other')
     block_alone : (body body' : Vec Statement Global) → AlikeStatements body.items body'.items → AlikeStatementForm (S.Block body) (S.Block body')
 
   pub data AlikeOtherwise : Otherwise → Otherwise → Type 0 where

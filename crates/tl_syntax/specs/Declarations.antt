@@ -13,13 +13,7 @@ use Rattle.tl_syntax.specs.declared.parsed.Declaration.{Declaration}
 use Rattle.tl_syntax.specs.declared.parsed.Declaration.TheVariants as D
 use Rattle.tl_syntax.specs.declared.parser.TheConstants.{MAX_LEVELS}
 use Rattle.tl_syntax.specs.Grammar.{kind_at, Stands, IsName, IsExpression, Disjunction}
-use Rattle.tl_syntax.specs.Statements.{word_while, IsOptionalName, IsBlock}
-
--- one or more names, separated by commas
-pub data AreNames (tokens : List Token) : ℕ → ℕ → List Name → Type 0 where
-  one : {i j : ℕ} {n : Name} → IsName tokens i j n → AreNames tokens i j (n ∷ [])
-  one_more : {i j k l : ℕ} {ns : List Name} {n : Name} → AreNames tokens i j ns → Stands tokens K.Comma j k → IsName tokens k l n →
-      AreNames tokens i l (ns ++ n ∷ [])
+use Rattle.tl_syntax.specs.Statements.{word_while, word_found, AreNames, IsOptionalName, IsBlock}
 
 -- a procedure's arguments and the closing parenthesis
 pub data AreArguments (tokens : List Token) : ℕ → ℕ → List Name → Type 0 where
@@ -74,9 +68,9 @@ pub data AreTaken (tokens : List Token) : ℕ → ℕ → List Parameter → Typ
 abbrev pub HasNoReturn : List Token → ℕ → ℕ → Type 0
 HasNoReturn tokens i j = (k : ℕ) → i ≤ k → k < j → kind_at tokens k ≢ K.Return
 
--- a part: its name, which isn't `while`, its parameters, and a body without `return`, whose size is the number of its tokens
+-- a part: its name, which isn't `while` or `found`, its parameters, and a body without `return`, whose size is the number of its tokens
 pub data IsPart (tokens : List Token) : ℕ → ℕ → Part → Type 0 where
-  part : {i j k l m n : ℕ} {p : Part} → Stands tokens word_part i j → IsName tokens j k p.name → K.Name p.name.symbol ≢ word_while → Stands tokens K.LeftParenthesis k l →
+  part : {i j k l m n : ℕ} {p : Part} → Stands tokens word_part i j → IsName tokens j k p.name → K.Name p.name.symbol ≢ word_while → K.Name p.name.symbol ≢ word_found → Stands tokens K.LeftParenthesis k l →
       AreTaken tokens l m p.parameters.items → IsBlock tokens MAX_LEVELS m n p.body.items → HasNoReturn tokens m n → p.size ≡ n - m → IsPart tokens i n p
 
 pub data IsDeclaration (tokens : List Token) : ℕ → ℕ → Declaration → Type 0 where

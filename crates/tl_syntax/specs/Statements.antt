@@ -1,5 +1,5 @@
 -- The grammar of statements. Each rule says what the tokens from i up to but not including j denote.
-use Rattle.std.specs.Prelude.{◌≡◌, ◌≢◌, ℕ, suc, List, [], ◌∷◌, ◌++◌, Bool, true, false, Option, None, Some}
+use Rattle.std.specs.Prelude.{◌≡◌, ◌≢◌, ℕ, suc, ◌+◌, List, [], ◌∷◌, ◌++◌, Bool, true, false, Option, None, Some}
 use Rattle.std.specs.declared.boxed.Box.{Box}
 use Rattle.std.specs.declared.vec.Vec.{Vec}
 use Rattle.std.specs.declared.alloc.Global.{Global}
@@ -50,6 +50,12 @@ word_to = K.Name (record { 0 = 4 })
 abbrev pub word_while : TokenKind
 word_while = K.Name (record { 0 = 6 })
 
+abbrev pub word_with : TokenKind
+word_with = K.Name (record { 0 = 9 })
+
+abbrev pub word_found : TokenKind
+word_found = K.Name (record { 0 = 10 })
+
 abbrev pub IsLeave : List Token → ℕ → ℕ → Leave → Type 0
 IsLeave tokens i j L.Break = Stands tokens K.Break i j
 IsLeave tokens i j L.Return = Stands tokens K.Return i j
@@ -59,6 +65,12 @@ abbrev pub IsChange : List Token → ℕ → ℕ → Change → Type 0
 IsChange tokens i j C.Set = Stands tokens K.Assign i j
 IsChange tokens i j C.Add = Stands tokens K.AddAssign i j
 IsChange tokens i j C.Subtract = Stands tokens K.SubtractAssign i j
+
+-- one or more names, separated by commas
+pub data AreNames (tokens : List Token) : ℕ → ℕ → List Name → Type 0 where
+  one_name : {i j : ℕ} {n : Name} → IsName tokens i j n → AreNames tokens i j (n ∷ [])
+  one_name_more : {i j k l : ℕ} {ns : List Name} {n : Name} → AreNames tokens i j ns → Stands tokens K.Comma j k → IsName tokens k l n →
+      AreNames tokens i l (ns ++ n ∷ [])
 
 -- an expression in parentheses
 pub data IsArgument (tokens : List Token) (levels : ℕ) : ℕ → ℕ → Expression → Type 0 where
@@ -99,6 +111,11 @@ pub data AreGiven (tokens : List Token) (levels : ℕ) : ℕ → ℕ → List Ex
   none_given : {i j : ℕ} → Stands tokens K.RightParenthesis i j → AreGiven tokens levels i j []
   some_given : {i j k : ℕ} {es : List Expression} → AreExpressions tokens levels i j es → Stands tokens K.RightParenthesis j k → AreGiven tokens levels i k es
 
+-- behind a loop: `found` is also a name
+pub record BeginsFound (tokens : List Token) (i : ℕ) : Type 0 where
+  pub found : kind_at tokens i ≡ word_found
+  pub opens : kind_at tokens (i + 1) ≡ K.LeftParenthesis
+
 -- whether it is a number or a name
 abbrev pub names_code : Form → Bool
 names_code (F.Number n) = true
@@ -132,9 +149,11 @@ pub data IsAction (tokens : List Token) (levels : ℕ) : ℕ → ℕ → Action 
       IsName tokens l m from → IsAction tokens levels i m (A.Take n from)
   frees : {i j k : ℕ} {n : Name} → Stands tokens K.Free i j → IsName tokens j k n → IsAction tokens levels i k (A.Free n)
   leaves : {i j : ℕ} {l : Leave} → IsLeave tokens i j l → IsAction tokens levels i j (A.Leave l)
+  breaks_with : {i j k l : ℕ} {es : Vec Expression Global} → Stands tokens K.Break i j → Stands tokens word_with j k → AreExpressions tokens levels k l es.items →
+      IsAction tokens levels i l (A.BreakWith es)
   fails_with : {i j k : ℕ} {e : Expression} → Stands tokens K.Fail i j → IsCode tokens levels j k e → IsAction tokens levels i k (A.Fail e)
-  -- the word `while` before a parenthesis begins a loop
-  uses : {i j k l : ℕ} {n : Name} {es : Vec Expression Global} → IsName tokens i j n → K.Name n.symbol ≢ word_while → Stands tokens K.LeftParenthesis j k →
+  -- the words `while` and `found` before a parenthesis belong to loops
+  uses : {i j k l : ℕ} {n : Name} {es : Vec Expression Global} → IsName tokens i j n → K.Name n.symbol ≢ word_while → K.Name n.symbol ≢ word_found → Stands tokens K.LeftParenthesis j k →
       AreGiven tokens levels k l es.items → IsAction tokens levels i l (A.Use n es)
 
 -- whether the statement may have an `else`
@@ -143,12 +162,14 @@ allows_else (A.Take n from) = false
 allows_else (A.Free n) = false
 allows_else (A.Leave l) = false
 allows_else (A.Fail e) = false
+allows_else (A.BreakWith es) = false
 allows_else action = true
 
 -- whether control doesn't go on behind it
 abbrev pub leaves_block : Action → Bool
 leaves_block (A.Leave l) = true
 leaves_block (A.Fail e) = true
+leaves_block (A.BreakWith es) = true
 leaves_block action = false
 
 pub data IsQuestion (tokens : List Token) (levels : ℕ) : ℕ → ℕ → Question → Type 0 where
@@ -161,7 +182,12 @@ pub data IsOptionalName (tokens : List Token) : ℕ → ℕ → Option Name → 
   some_name : {i j k l : ℕ} {n : Name} → Stands tokens K.LeftParenthesis i j → IsName tokens j k n → Stands tokens K.RightParenthesis k l →
       IsOptionalName tokens i l (Some n)
 
--- `break;`, `return;` or `fail;`, with or without a code, as the only statement of an `else`
+-- one or more names in parentheses
+pub data AreFoundNames (tokens : List Token) : ℕ → ℕ → List Name → Type 0 where
+  found_names : {i j k l : ℕ} {ns : List Name} → Stands tokens K.LeftParenthesis i j → AreNames tokens j k ns → Stands tokens K.RightParenthesis k l →
+      AreFoundNames tokens i l ns
+
+-- `break;`, `return;` or `fail;`, with or without numbers or a code, as the only statement of an `else`
 pub data IsLeaving (tokens : List Token) (levels : ℕ) : ℕ → ℕ → List Statement → Type 0 where
   leaving : {i j k : ℕ} {a : Action} {s : Statement} → IsAction tokens levels i j a → leaves_block a ≡ true → Stands tokens K.Semicolon j k → s.form ≡ S.Act a None →
       s.offset ≡ offset_at tokens i → IsLeaving tokens levels i k (s ∷ [])
@@ -252,20 +278,32 @@ mutual
         other.items ≡ [] → IsForm tokens (suc levels) i l (S.If q body other)
     if_else : {levels i j k l m n : ℕ} {q : Question} (body other : Vec Statement Global) → Stands tokens K.If i j → IsQuestion tokens levels j k q →
         IsBlock tokens levels k l body.items → Stands tokens K.Else l m → IsOther tokens levels m n other.items → IsForm tokens (suc levels) i n (S.If q body other)
-    repeat : {levels i j k l : ℕ} {turns : Expression} (body : Vec Statement Global) → Stands tokens K.Repeat i j → IsExpression tokens levels Disjunction j k turns →
-        IsBlock tokens levels k l body.items → IsForm tokens levels i l (S.Repeat turns None body)
-    repeat_at_most : {levels i j k l m n o : ℕ} {turns most : Expression} (body : Vec Statement Global) → Stands tokens K.Repeat i j →
-        IsExpression tokens levels Disjunction j k turns → Stands tokens word_at k l → Stands tokens word_most l m → IsExpression tokens levels Disjunction m n most →
-        IsBlock tokens levels n o body.items → IsForm tokens levels i o (S.Repeat turns (Some most) body)
-    for_each : {levels i j k l m n o p q r s t : ℕ} {child parent : Name} {place : Option Name} {most : Expression} (body : Vec Statement Global) → Stands tokens K.For i j →
-        Stands tokens word_each j k → Stands tokens K.Child k l → IsName tokens l m child → IsOptionalName tokens m n place → Stands tokens word_of n o →
-        IsName tokens o p parent → Stands tokens word_at p q → Stands tokens word_most q r → IsExpression tokens levels Disjunction r s most → IsBlock tokens levels s t body.items →
-        IsForm tokens levels i t (S.ForEach child place parent most body)
+    loop : {levels i j : ℕ} {form : StatementForm} → IsLoop tokens levels i j form → (BeginsFound tokens j → ⊥) → IsForm tokens levels i j form
+    -- a loop that may be left with numbers, and what is done behind it where it is, and where it isn't
+    search : {levels i j k l m n : ℕ} {form : StatementForm} (turns found other : Vec Statement Global) (names : Vec Name Global) → IsLoop tokens levels i j form →
+        IsOnly (offset_at tokens i) form turns.items → Stands tokens word_found j k → AreFoundNames tokens k l names.items → IsBlock tokens levels l m found.items →
+        IsNotFound tokens levels m n other.items → IsForm tokens levels i n (S.Search turns names found other)
     block_alone : {levels i j : ℕ} (body : Vec Statement Global) → IsBlock tokens levels i j body.items → IsForm tokens levels i j (S.Block body)
     -- behind the loop the condition doesn't hold
     while : {levels i j k l : ℕ} {condition most : Expression} (body all : Vec Statement Global) → Stands tokens word_while i j →
         IsWhile tokens levels j k condition most → IsBlock tokens levels k l body.items → IsLooped tokens levels j (offset_at tokens i) condition most body all.items →
         IsForm tokens (suc levels) i l (S.Block all)
+
+  -- a block behind `else`, or nothing where no `else` stands
+  pub data IsNotFound (tokens : List Token) : ℕ → ℕ → ℕ → List Statement → Type 0 where
+    nothing_else : {levels i : ℕ} → kind_at tokens i ≢ K.Else → IsNotFound tokens levels i i []
+    otherwise : {levels i j k : ℕ} {all : List Statement} → Stands tokens K.Else i j → IsBlock tokens levels j k all → IsNotFound tokens levels i k all
+
+  pub data IsLoop (tokens : List Token) : ℕ → ℕ → ℕ → StatementForm → Type 0 where
+    repeat : {levels i j k l : ℕ} {turns : Expression} (body : Vec Statement Global) → Stands tokens K.Repeat i j → IsExpression tokens levels Disjunction j k turns →
+        IsBlock tokens levels k l body.items → IsLoop tokens levels i l (S.Repeat turns None body)
+    repeat_at_most : {levels i j k l m n o : ℕ} {turns most : Expression} (body : Vec Statement Global) → Stands tokens K.Repeat i j →
+        IsExpression tokens levels Disjunction j k turns → Stands tokens word_at k l → Stands tokens word_most l m → IsExpression tokens levels Disjunction m n most →
+        IsBlock tokens levels n o body.items → IsLoop tokens levels i o (S.Repeat turns (Some most) body)
+    for_each : {levels i j k l m n o p q r s t : ℕ} {child parent : Name} {place : Option Name} {most : Expression} (body : Vec Statement Global) → Stands tokens K.For i j →
+        Stands tokens word_each j k → Stands tokens K.Child k l → IsName tokens l m child → IsOptionalName tokens m n place → Stands tokens word_of n o →
+        IsName tokens o p parent → Stands tokens word_at p q → Stands tokens word_most q r → IsExpression tokens levels Disjunction r s most → IsBlock tokens levels s t body.items →
+        IsLoop tokens levels i t (S.ForEach child place parent most body)
 
   -- what follows the `else` of an `if`
   pub data IsOther (tokens : List Token) : ℕ → ℕ → ℕ → List Statement → Type 0 where

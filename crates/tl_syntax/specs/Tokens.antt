@@ -176,7 +176,7 @@ pub record Extends (old new : List (List ℕ)) : Type 0 where
 
 -- the words that may also be used as names; they are the first names
 abbrev pub first_names : List (List ℕ)
-first_names = codes "at" ∷ codes "each" ∷ codes "most" ∷ codes "of" ∷ codes "to" ∷ codes "atomic" ∷ codes "while" ∷ codes "part" ∷ codes "var" ∷ []
+first_names = codes "at" ∷ codes "each" ∷ codes "most" ∷ codes "of" ∷ codes "to" ∷ codes "atomic" ∷ codes "while" ∷ codes "part" ∷ codes "var" ∷ codes "with" ∷ codes "found" ∷ []
 
 -- the names are those of the grammar and then those of the tokens, in order of appearance
 abbrev pub AreNamesOf : List Token → List (List ℕ) → Type 0

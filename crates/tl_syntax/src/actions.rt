@@ -165,7 +165,7 @@ impl<'a> Parser<'a> {
         ensures { IfOk result (λ read. IsAction self.now.tokens.now levels at read.1 read.0) }
     {
         let (part, next) = self.name(at)?;
-        if part.symbol == Symbol::WHILE {
+        if part.symbol == Symbol::WHILE || part.symbol == Symbol::FOUND {
             return Err(self.misplaced(at));
         }
         let next = self.skip(next, TokenKind::LeftParenthesis)?;
@@ -279,7 +279,13 @@ impl<'a> Parser<'a> {
         self.kind(at) == TokenKind::Fail && self.kind(self.behind(at)) != TokenKind::Semicolon
     }
 
-    /// `break`, `return` or `fail`, which may have a code.
+    // Whether the word `break` stands here with numbers.
+    fn has_numbers(&self, at: usize) -> bool {
+        self.kind(at) == TokenKind::Break
+            && self.kind(self.behind(at)) == TokenKind::Name(Symbol::WITH)
+    }
+
+    /// `break`, which may have numbers, `return`, or `fail`, which may have a code.
     pub fn way_out(&self, at: usize, levels: u32) -> Parsed<Action>
         ensures read { IfOk result (λ read. IsAction self.now.tokens.now levels at read.1 read.0) }
         ensures leaves { IfOk result (λ read. leaves_block read.0 ≡ true) }
@@ -288,6 +294,12 @@ impl<'a> Parser<'a> {
             let next = self.skip(at, TokenKind::Fail)?;
             let (code, after) = self.code(next, levels)?;
             return Ok((Action::Fail(code), after));
+        }
+        if self.has_numbers(at) {
+            let next = self.skip(at, TokenKind::Break)?;
+            let next = self.skip_word(next, Symbol::WITH)?;
+            let (values, after) = self.values(next, levels)?;
+            return Ok((Action::BreakWith(values), after));
         }
         match self.leave(at) {
             Some((leave, next)) => Ok((Action::Leave(leave), next)),

@@ -2,9 +2,8 @@
 
 ghost use Rattle.std.specs.Prelude.{◌≡◌, ◌≢◌, IfOk, OnOk};
 ghost use Rattle.tl_syntax.specs.Grammar.{kind_at, IsName};
-ghost use Rattle.tl_syntax.specs.Statements.{word_while};
+ghost use Rattle.tl_syntax.specs.Statements.{word_while, word_found, AreNames};
 ghost use Rattle.tl_syntax.specs.Declarations.{
-  AreNames,
   AreArguments,
   IsMark,
   IsProcedure,
@@ -47,7 +46,7 @@ impl<'a> Parser<'a> {
     }
 
     // One name or more, with commas between them.
-    fn names(&self, at: usize) -> Parsed<Vec<Name>>
+    pub fn names(&self, at: usize) -> Parsed<Vec<Name>>
         ensures { IfOk result (λ read. AreNames self.now.tokens.now at read.1 read.0.items) }
     {
         let mut names = Vec::new(self.alloc);
@@ -189,13 +188,14 @@ impl<'a> Parser<'a> {
         Ok(())
     }
 
-    // The name of a part. No part is named `while`: this word before a parenthesis begins a loop.
+    // The name of a part. No part is named `while` or `found`: these words before a parenthesis belong to loops.
     fn part_name(&self, at: usize) -> Parsed<Name>
         ensures read { IfOk result (λ read. IsName self.now.tokens.now at read.1 read.0) }
         ensures no_loop { IfOk result (λ read. TokenKind.Name read.0.symbol ≢ word_while) }
+        ensures no_found { IfOk result (λ read. TokenKind.Name read.0.symbol ≢ word_found) }
     {
         let (name, after) = self.name(at)?;
-        if name.symbol == Symbol::WHILE {
+        if name.symbol == Symbol::WHILE || name.symbol == Symbol::FOUND {
             return Err(SyntaxFault::at(Wrong::PartName, name.offset));
         }
         Ok((name, after))

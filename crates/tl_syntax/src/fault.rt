@@ -42,8 +42,8 @@ pub enum Wrong {
     /// 273: a `return` in a part.
     #[error("a part has no `return`: behind it goes on what used it")]
     PartReturns,
-    /// 273: a part named `while`.
-    #[error("no part is named `while`: before a parenthesis this word begins a loop")]
+    /// 273: a part named `while` or `found`.
+    #[error("no part is named `while` or `found`: before a parenthesis these words belong to a loop")]
     PartName,
     /// 273: a side of `%` that is computed.
     #[error("each side of `%` is a number, a name, a field or `kids` of a node: give this one a name before, by `let`")]
@@ -120,6 +120,12 @@ pub enum Wrong {
     /// 288: `break` outside a loop.
     #[error("break outside a loop")]
     NoLoop,
+    /// 288: `break with` in a loop without `found`.
+    #[error("`break with` in a loop behind which no `found` stands")]
+    NoSearch,
+    /// 279: another number of numbers than `found` has names.
+    #[error("the loop's `found` has more names for these numbers, or fewer")]
+    FoundNames,
     /// 298: a field of a node that the same statement writes already.
     #[error("this statement writes the field already: the first number would be lost")]
     WrittenTwice,
@@ -164,7 +170,7 @@ impl Wrong {
             | Wrong::SameNode
             | Wrong::NoPart => 277,
             Wrong::FieldNumber => 278,
-            Wrong::Argument | Wrong::Arguments => 279,
+            Wrong::Argument | Wrong::Arguments | Wrong::FoundNames => 279,
             Wrong::Turns => 280,
             Wrong::NotHeld => 281,
             Wrong::EnteredAgain => 282,
@@ -173,7 +179,7 @@ impl Wrong {
             Wrong::OtherParent => 285,
             Wrong::ElseEnds => 286,
             Wrong::Unreached => 287,
-            Wrong::NoLoop => 288,
+            Wrong::NoLoop | Wrong::NoSearch => 288,
             Wrong::WrittenTwice => 298,
             Wrong::WrittenBefore => 299,
             Wrong::Values => 291,

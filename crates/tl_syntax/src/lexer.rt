@@ -101,6 +101,8 @@ impl<'a> Lexed<'a> {
         names.insert(b"while".as_slice())?;
         names.insert(b"part".as_slice())?;
         names.insert(b"var".as_slice())?;
+        names.insert(b"with".as_slice())?;
+        names.insert(b"found".as_slice())?;
         Ok(Lexed {
             tokens: Vec::new(alloc),
             names,

@@ -8,6 +8,7 @@ mod failure;
 mod fault;
 pub mod laws;
 mod lexer;
+mod loops;
 mod operator;
 pub mod parsed;
 mod parser;

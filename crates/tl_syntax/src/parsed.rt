@@ -121,6 +121,8 @@ pub enum Action {
     Leave(Leave),
     /// A failure with this code.
     Fail(Expression),
+    /// The innermost loop is left with these numbers.
+    BreakWith(Vec<Expression>),
     /// A part, and what it is given here.
     Use {
         part: Name,
@@ -174,6 +176,9 @@ pub enum StatementForm {
     },
     /// A block of its own.
     Block(Vec<Statement>),
+    /// A loop, alone in the first block. Where it is left with numbers, these have the names in the second block; otherwise the third one
+    /// is done behind it.
+    Search(Vec<Statement>, Vec<Name>, Vec<Statement>, Vec<Statement>),
 }
 
 /// A procedure. One that is marked by `atomic` promises that it has written nothing where it fails. In its `else` the name `why`, if it

@@ -1,7 +1,6 @@
 // Statements with blocks, and how a statement ends: each function reads one rule of the grammar. `levels` says how many levels may still be opened.
 
 ghost use Rattle.std.specs.Prelude.{◌≡◌, true, IfOk};
-ghost use Rattle.tl_syntax.specs.Grammar.{IsExpression, Disjunction, Stands};
 ghost use Rattle.tl_syntax.specs.Statements.{
   IsAction,
   IsQuestion,
@@ -17,10 +16,6 @@ ghost use Rattle.tl_syntax.specs.Statements.{
   IsLeaving,
   IsOnly,
   AreTwo,
-  IsBoundedLoop,
-  RequiresNot,
-  IsWhile,
-  IsLooped,
   MayEnd,
   IsOther,
   IsOtherwise,
@@ -32,7 +27,7 @@ use crate::parsed::{
     Action, Expression, Form, Leave, Name, Otherwise, Place, Question, Statement, StatementForm,
 };
 use crate::parser::{Parsed, Parser};
-use crate::token::{Symbol, TokenKind};
+use crate::token::TokenKind;
 
 // Whether the statement may have an `else` of its own.
 fn may_have_else(action: &Action) -> bool
@@ -40,7 +35,11 @@ fn may_have_else(action: &Action) -> bool
 {
     !matches!(
         *action,
-        Action::Take { .. } | Action::Free(_) | Action::Leave(_) | Action::Fail(_)
+        Action::Take { .. }
+            | Action::Free(_)
+            | Action::Leave(_)
+            | Action::Fail(_)
+            | Action::BreakWith(_)
     )
 }
 
@@ -66,8 +65,8 @@ fn declaration_failure(action: &Action) -> Option<Failure>
 }
 
 impl<'a> Parser<'a> {
-    // A statement alone.
-    fn only(&self, offset: usize, form: StatementForm) -> Result<Vec<Statement>, SyntaxFault>
+    /// A statement alone.
+    pub fn only(&self, offset: usize, form: StatementForm) -> Result<Vec<Statement>, SyntaxFault>
         ensures { IfOk result (λ all. IsOnly offset form all.items) }
     {
         let mut all = Vec::new(self.alloc);
@@ -85,8 +84,8 @@ impl<'a> Parser<'a> {
         Ok((self.only(self.offset(at), form)?, after))
     }
 
-    // Two statements that begin at one place.
-    fn two(
+    /// Two statements that begin at one place.
+    pub fn two(
         &self,
         offset: usize,
         first: StatementForm,
@@ -195,8 +194,7 @@ impl<'a> Parser<'a> {
         match self.kind(at) {
             TokenKind::Try => self.attempt(at, levels),
             TokenKind::If => self.choice(at, levels),
-            TokenKind::Repeat => self.repetition(at, levels),
-            TokenKind::For => self.visit(at, levels),
+            TokenKind::Repeat | TokenKind::For => self.search(at, levels),
             TokenKind::LeftBrace => {
                 let (body, after) = self.block(at, levels)?;
                 Ok((StatementForm::Block(body), after))
@@ -204,18 +202,6 @@ impl<'a> Parser<'a> {
             _ if self.begins_while(at) => self.conditional_loop(at, levels),
             _ => self.act(at, levels),
         }
-    }
-
-    // Whether the word `while` stands here and is no name that is assigned or written.
-    fn begins_while(&self, at: usize) -> bool {
-        self.kind(at) == TokenKind::Name(Symbol::WHILE)
-            && !matches!(
-                self.kind(self.behind(at)),
-                TokenKind::Assign
-                    | TokenKind::AddAssign
-                    | TokenKind::SubtractAssign
-                    | TokenKind::Dot
-            )
     }
 
     #[cycle(statements)]
@@ -333,138 +319,5 @@ impl<'a> Parser<'a> {
             TokenKind::Semicolon => self.behind(at),
             _ => at,
         }
-    }
-
-    #[cycle(statements)]
-    fn repetition(&self, at: usize, levels: u32) -> Parsed<StatementForm>
-        ensures { IfOk result (λ read. IsForm self.now.tokens.now levels at read.1 read.0) }
-    {
-        let at = self.skip(at, TokenKind::Repeat)?;
-        let (turns, at) = self.expression(at, levels)?;
-        let Some(next) = self.skip_if(at, TokenKind::Name(Symbol::AT)) else {
-            let (body, at) = self.block(at, levels)?;
-            let form = StatementForm::Repeat {
-                turns,
-                at_most: None,
-                body,
-            };
-            return Ok((form, at));
-        };
-        let next = self.skip_word(next, Symbol::MOST)?;
-        let (count, next) = self.expression(next, levels)?;
-        let (body, after) = self.block(next, levels)?;
-        let form = StatementForm::Repeat {
-            turns,
-            at_most: Some(count),
-            body,
-        };
-        Ok((form, after))
-    }
-
-    // A loop that turns as long as the condition holds, as often as the count says at most.
-    fn bounded_loop(
-        &self,
-        offset: usize,
-        condition: Expression,
-        count: Expression,
-        body: Vec<Statement>,
-    ) -> Result<StatementForm, SyntaxFault>
-        ensures { IfOk result (IsBoundedLoop offset condition count body) }
-    {
-        let leave = StatementForm::Act(Action::Leave(Leave::Break), None);
-        let otherwise = self.only(offset, leave)?;
-        let choice = StatementForm::If(Question::Condition(condition), body, otherwise);
-        let turn = self.only(offset, choice)?;
-        Ok(StatementForm::Repeat {
-            turns: count,
-            at_most: None,
-            body: turn,
-        })
-    }
-
-    // A statement that fails if the condition that begins here holds. The word `at` follows the condition.
-    fn requires_not(
-        &self,
-        at: usize,
-        levels: u32,
-        offset: usize,
-    ) -> Result<StatementForm, SyntaxFault>
-        ensures { IfOk result (RequiresNot self.now.tokens.now levels at offset) }
-    {
-        let (condition, at) = self.expression(at, levels)?;
-        let _behind = self.skip_word(at, Symbol::AT)?;
-        let boxed = Box::new(self.alloc, condition)?;
-        let form = Form::Not(boxed);
-        let negation = Expression { offset, form };
-        let form = Form::Number(i64::from(Failure::Bound.code()));
-        let code = Expression { offset, form };
-        Ok(StatementForm::Act(Action::Require(negation, Some(code)), None))
-    }
-
-    // The condition of a `while`, and how often it turns at most.
-    fn while_head(&self, at: usize, levels: u32) -> Parsed<(Expression, Expression)>
-        ensures { IfOk result (λ read. IsWhile self.now.tokens.now levels at read.1 read.0.0 read.0.1) }
-    {
-        let (condition, at) = self.expression(at, levels)?;
-        let at = self.skip_word(at, Symbol::AT)?;
-        let at = self.skip_word(at, Symbol::MOST)?;
-        let (count, at) = self.expression(at, levels)?;
-        Ok(((condition, count), at))
-    }
-
-    // The loop of a `while` whose condition begins here, and a statement behind it that fails if the condition holds.
-    fn looped(
-        &self,
-        at: usize,
-        levels: u32,
-        offset: usize,
-        head: (Expression, Expression),
-        body: Vec<Statement>,
-    ) -> Result<Vec<Statement>, SyntaxFault>
-        ensures { IfOk result (λ all. IsLooped self.now.tokens.now levels at offset head.0 head.1 body all.items) }
-    {
-        let (condition, count) = head;
-        let repetition = self.bounded_loop(offset, condition, count, body)?;
-        let check = self.requires_not(at, levels, offset)?;
-        self.two(offset, repetition, check)
-    }
-
-    // A `while`, which opens a level.
-    #[cycle(statements)]
-    fn conditional_loop(&self, at: usize, levels: u32) -> Parsed<StatementForm>
-        ensures { IfOk result (λ read. IsForm self.now.tokens.now levels at read.1 read.0) }
-    {
-        let offset = self.offset(at);
-        let levels = self.open(at, levels)?;
-        let start = self.skip_word(at, Symbol::WHILE)?;
-        let (head, at) = self.while_head(start, levels)?;
-        let (body, after) = self.block(at, levels)?;
-        let all = self.looped(start, levels, offset, head, body)?;
-        Ok((StatementForm::Block(all), after))
-    }
-
-    #[cycle(statements)]
-    fn visit(&self, at: usize, levels: u32) -> Parsed<StatementForm>
-        ensures { IfOk result (λ read. IsForm self.now.tokens.now levels at read.1 read.0) }
-    {
-        let at = self.skip(at, TokenKind::For)?;
-        let at = self.skip_word(at, Symbol::EACH)?;
-        let at = self.skip(at, TokenKind::Child)?;
-        let (child, at) = self.name(at)?;
-        let (index, at) = self.optional_name(at)?;
-        let at = self.skip_word(at, Symbol::OF)?;
-        let (parent, at) = self.name(at)?;
-        let at = self.skip_word(at, Symbol::AT)?;
-        let at = self.skip_word(at, Symbol::MOST)?;
-        let (at_most, at) = self.expression(at, levels)?;
-        let (body, at) = self.block(at, levels)?;
-        let form = StatementForm::ForEach {
-            child,
-            index,
-            parent,
-            at_most,
-            body,
-        };
-        Ok((form, at))
     }
 }

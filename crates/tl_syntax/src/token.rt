@@ -23,6 +23,10 @@ impl Symbol {
     pub const PART: Symbol = Symbol(7);
 
     pub const VAR: Symbol = Symbol(8);
+
+    pub const WITH: Symbol = Symbol(9);
+
+    pub const FOUND: Symbol = Symbol(10);
 }
 
 /// The kind of a token. The reserved words come first.

@@ -9,7 +9,7 @@ use Rattle.tl_syntax.specs.declared.parsed.Parameter.{Parameter}
 use Rattle.tl_syntax.specs.declared.parsed.Part.{Part}
 use Rattle.tl_syntax.specs.declared.parsed.Declaration.{Declaration}
 use Rattle.tl_warnings.specs.declared.warning.Warning.{Warning}
-use Rattle.tl_warnings.specs.Finding.{BlockWarns, no_statements, next_statement, StatementWarns, ValueWarns, NamedWarns, AskedWarns, ArgumentWarns, ArgumentsWarn, more_arguments, ParameterWarns, ParametersWarn, more_parameters, DeclarationWarns, DeclarationsWarn, more_declarations}
+use Rattle.tl_warnings.specs.Finding.{BlockWarns, no_statements, next_statement, StatementWarns, ValueWarns, ValuesWarn, more_values, NamedWarns, AskedWarns, ArgumentWarns, ArgumentsWarn, more_arguments, ParameterWarns, ParametersWarn, more_parameters, DeclarationWarns, DeclarationsWarn, more_declarations}
 use Rattle.tl_warnings.proofs.ListLemmas.{taken_more, left_next, left_none}
 
 pub block_at : {ss ts : List Statement} {ws vs us : List Warning} → ss ≡ ts → ws ≡ vs → BlockWarns ss ws us → BlockWarns ts vs us
@@ -32,6 +32,13 @@ block_next {ws} {vs} ss i s rest inside is left here before us later =
 
 pub block_end : {P : List Warning → Type 0} (ss : List Statement) (i : ℕ) (ws : List Warning) → length ss ≤ i → ((us : List Warning) → BlockWarns (drop i ss) ws us → P us) → P ws
 block_end ss i ws past before = before ws (subst (λ z. BlockWarns z ws ws) (sym (left_none ss i past)) no_statements)
+
+pub values_at : {ss ts : List Statement} {ws vs : List Warning} {ms ns : List Name} → ss ≡ ts → ms ≡ ns → ValuesWarn ss ws ms vs → ValuesWarn ts ws ns vs
+values_at {ss} {ts} {ws} {vs} {ms} is same values = subst (λ z. ValuesWarn ts ws z vs) same (subst (λ z. ValuesWarn z ws ms vs) is values)
+
+pub values_more : {known : List Statement} {ws vs us : List Warning} (names : List Name) (i : ℕ) (d : Name) → i < length names → ValuesWarn known ws (take i names) vs
+    → ValueWarns (get_or names i d) known vs us → ValuesWarn known ws (take (i + 1) names) us
+values_more {known} {ws} {vs} {us} names i d inside before here = subst (λ z. ValuesWarn known ws z us) (sym (take_more names i d inside)) (more_values (get_or names i d) before here)
 
 pub arguments_more : {p : Procedure} {ws vs us : List Warning} (names : List Name) (i : ℕ) (d : Name) → i < length names → ArgumentsWarn p ws (take i names) vs
     → ArgumentWarns p (get_or names i d) vs us → ArgumentsWarn p ws (take (i + 1) names) us

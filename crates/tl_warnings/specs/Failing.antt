@@ -69,6 +69,7 @@ pub data ActionFails : Action → Bool → Type 0 where
   frees : {name : Name} → ActionFails (A.Free name) false
   leaves : {leave : Leave} → ActionFails (A.Leave leave) (is_fail leave)
   fails_with : {e : Expression} → ActionFails (A.Fail e) true
+  breaks_with : {es : Vec Expression Global} {r : Bool} → AnyFails es.items r → ActionFails (A.BreakWith es) r
   -- any part may
   uses : {name : Name} {es : Vec Expression Global} → ActionFails (A.Use name es) true
 
@@ -95,6 +96,8 @@ mutual
     for_each : {child parent : Name} {index : Option Name} {most : Expression} (xs : Vec Statement Global) →
         StatementFails (T.ForEach child index parent most xs) true
     block_alone : (xs : Vec Statement Global) {r : Bool} → BlockFails xs.items r → StatementFails (T.Block xs) r
+    search : {names : Vec Name Global} (xs ys zs : Vec Statement Global) {r s t : Bool} → BlockFails xs.items r → BlockFails ys.items s → BlockFails zs.items t →
+        StatementFails (T.Search xs names ys zs) (r || (s || t))
 
   -- a failure without an `else` stays one
   pub data ElseFails : Option Otherwise → Bool → Type 0 where

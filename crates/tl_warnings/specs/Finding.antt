@@ -46,6 +46,11 @@ pub data NamedWarns (known : List Statement) (ws : List Warning) : Option Name �
   no_value : NamedWarns known ws None ws
   some_value : {name : Name} {vs : List Warning} → ValueWarns name known ws vs → NamedWarns known ws (Some name) vs
 
+-- the values of the first of these names
+pub data ValuesWarn (known : List Statement) (ws : List Warning) : List Name → List Warning → Type 0 where
+  no_values : ValuesWarn known ws [] ws
+  more_values : {names : List Name} (name : Name) {vs us : List Warning} → ValuesWarn known ws names vs → ValueWarns name known vs us → ValuesWarn known ws (names ++ name ∷ []) us
+
 -- the name of the value that an action declares for the rest of its block; a node that nothing reads is still locked
 abbrev pub declared : Action → Option Name
 declared (A.Let name e) = Some name
@@ -70,6 +75,7 @@ pub data LockedWarns (rest : List Statement) (ws : List Warning) : Action → Li
   frees : {name : Name} → LockedWarns rest ws (A.Free name) ws
   leaves : {leave : Leave} → LockedWarns rest ws (A.Leave leave) ws
   fails_with : {e : Expression} → LockedWarns rest ws (A.Fail e) ws
+  breaks_with : {es : Vec Expression Global} → LockedWarns rest ws (A.BreakWith es) ws
   uses : {name : Name} {es : Vec Expression Global} → LockedWarns rest ws (A.Use name es) ws
 
 -- the nodes that an `if` locks for its first block
@@ -99,6 +105,9 @@ mutual
         StatementWarns offset (T.ForEach child index parent most xs) rest ws ts
     block_alone : {offset : ℕ} (xs : Vec Statement Global) {rest : List Statement} {ws vs : List Warning} →
         BlockWarns xs.items ws vs → StatementWarns offset (T.Block xs) rest ws vs
+    search : {offset : ℕ} {names : Vec Name Global} (xs ys zs : Vec Statement Global) {rest : List Statement} {ws vs us ts all : List Warning} →
+        BlockWarns xs.items ws vs → ValuesWarn ys.items vs names.items us → BlockWarns ys.items us ts → BlockWarns zs.items ts all →
+        StatementWarns offset (T.Search xs names ys zs) rest ws all
 
   -- the `else` of what may fail or may not
   pub data ElseWarns : Bool → Option Otherwise → List Warning → List Warning → Type 0 where

@@ -37,6 +37,7 @@ pub data ActionLocks (x : ℕ) : Action → Bool → Type 0 where
   frees : {name : Name} → ActionLocks x (A.Free name) false
   leaves : {leave : Leave} → ActionLocks x (A.Leave leave) false
   fails_with : {e : Expression} → ActionLocks x (A.Fail e) false
+  breaks_with : {es : Vec Expression Global} → ActionLocks x (A.BreakWith es) false
   -- a part that is given the node may
   uses : {name : Name} {es : Vec Expression Global} {r : Bool} → AnyReads x es.items r → ActionLocks x (A.Use name es) r
 
@@ -58,6 +59,8 @@ mutual
     for_each : {child parent : Name} {index : Option Name} {most : Expression} (xs : Vec Statement Global) {r : Bool} → BlockLocks x xs.items r →
         StatementLocks x (T.ForEach child index parent most xs) (nat_eq parent.symbol.0 x || r)
     block_alone : (xs : Vec Statement Global) {r : Bool} → BlockLocks x xs.items r → StatementLocks x (T.Block xs) r
+    search : {names : Vec Name Global} (xs ys zs : Vec Statement Global) {r s t : Bool} → BlockLocks x xs.items r → BlockLocks x ys.items s → BlockLocks x zs.items t →
+        StatementLocks x (T.Search xs names ys zs) (r || (s || t))
 
   pub data ElseLocks (x : ℕ) : Option Otherwise → Bool → Type 0 where
     no_else : ElseLocks x None false

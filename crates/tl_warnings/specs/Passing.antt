@@ -27,6 +27,7 @@ behind_action x (A.Descend name e) r b = Some (b && not (nat_eq name.symbol.0 x)
 behind_action x (A.Take name from) r b = Some (b && not (nat_eq name.symbol.0 x))
 behind_action x (A.Leave leave) r b = None
 behind_action x (A.Fail e) r b = None
+behind_action x (A.BreakWith es) r b = None
 behind_action x a r b = Some (b || r)
 
 mutual
@@ -50,6 +51,9 @@ mutual
     for_each : {child parent : Name} {index : Option Name} {most : Expression} (xs : Vec Statement Global) {b r : Bool} → BlockLocks x xs.items r →
         StatementPasses x b (T.ForEach child index parent most xs) (Some (b || (nat_eq parent.symbol.0 x || r)))
     block_alone : (xs : Vec Statement Global) {b : Bool} {p : Option Bool} → BlockPasses x b xs.items p → StatementPasses x b (T.Block xs) p
+    -- behind a loop its turns may have locked one
+    search : {names : Vec Name Global} (xs ys zs : Vec Statement Global) {b r : Bool} {p q : Option Bool} → BlockLocks x xs.items r → BlockPasses x (b || r) ys.items p →
+        BlockPasses x (b || r) zs.items q → StatementPasses x b (T.Search xs names ys zs) (or_of p q)
 
   -- a failure without an `else` leads nowhere
   pub data ElsePasses (x : ℕ) : Bool → Option Otherwise → Option Bool → Type 0 where

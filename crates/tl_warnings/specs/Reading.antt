@@ -80,6 +80,7 @@ pub data ActionReads (x : ℕ) : Action → Bool → Type 0 where
   frees : {name : Name} → ActionReads x (A.Free name) false
   leaves : {leave : Leave} → ActionReads x (A.Leave leave) false
   fails_with : {e : Expression} {r : Bool} → Reads x e.form r → ActionReads x (A.Fail e) r
+  breaks_with : {es : Vec Expression Global} {r : Bool} → AnyReads x es.items r → ActionReads x (A.BreakWith es) r
   -- what a part is given
   uses : {name : Name} {es : Vec Expression Global} {r : Bool} → AnyReads x es.items r → ActionReads x (A.Use name es) r
 
@@ -99,6 +100,8 @@ mutual
     for_each : {child parent : Name} {index : Option Name} {most : Expression} (xs : Vec Statement Global) {r : Bool} → BlockReads x xs.items r →
         StatementReads x (T.ForEach child index parent most xs) r
     block_alone : (xs : Vec Statement Global) {r : Bool} → BlockReads x xs.items r → StatementReads x (T.Block xs) r
+    search : {names : Vec Name Global} (xs ys zs : Vec Statement Global) {r s t : Bool} → BlockReads x xs.items r → BlockReads x ys.items s → BlockReads x zs.items t →
+        StatementReads x (T.Search xs names ys zs) (r || (s || t))
 
   pub data ElseReads (x : ℕ) : Option Otherwise → Bool → Type 0 where
     no_else : ElseReads x None false

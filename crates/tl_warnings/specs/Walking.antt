@@ -50,6 +50,8 @@ mutual
         BlockWalks x (b || (nat_eq parent.symbol.0 x || r)) xs.items (walk_warned x parent (b || unwrap_or p false) offset ws) us →
         FormWalks x b offset (T.ForEach child index parent most xs) ws us
     block_alone : {offset : ℕ} (xs : Vec Statement Global) {b : Bool} {ws us : List Warning} → BlockWalks x b xs.items ws us → FormWalks x b offset (T.Block xs) ws us
+    search : {offset : ℕ} {names : Vec Name Global} (xs ys zs : Vec Statement Global) {b r : Bool} {ws vs us ts : List Warning} → BlockLocks x xs.items r → BlockWalks x b xs.items ws vs →
+        BlockWalks x (b || r) ys.items vs us → BlockWalks x (b || r) zs.items us ts → FormWalks x b offset (T.Search xs names ys zs) ws ts
 
   pub data ElseWalks (x : ℕ) : Bool → Option Otherwise → List Warning → List Warning → Type 0 where
     no_else : {b : Bool} {ws : List Warning} → ElseWalks x b None ws ws

@@ -83,6 +83,7 @@ pub fn action_may_fail(action: &Action) -> bool
         Action::Free(_) => false,
         Action::Leave(leave) => is_fail(*leave),
         Action::Fail(_) => true,
+        Action::BreakWith(numbers) => any_may_fail(numbers),
         Action::Use { .. } => true,
     }
 }
@@ -121,6 +122,9 @@ fn statement_may_fail(statement: &Statement) -> bool
         StatementForm::Repeat { at_most, body, .. } => at_most.is_some() | block_may_fail(body),
         StatementForm::ForEach { .. } => true,
         StatementForm::Block(body) => block_may_fail(body),
+        StatementForm::Search(turns, _, found, otherwise) => {
+            block_may_fail(turns) | (block_may_fail(found) | block_may_fail(otherwise))
+        }
     }
 }
 

@@ -2,7 +2,7 @@
 
 ghost use Rattle.std.specs.Prelude.{◌≡◌, false, IfOk, OnOk};
 ghost use Rattle.tl_warnings.specs.Walking.{BlockWalks};
-ghost use Rattle.tl_warnings.specs.Finding.{unless as unless_lem, ValueWarns, NamedWarns, declared as declared_lem, PlaceWarns, LockedWarns, AskedWarns, BlockWarns, StatementWarns, ElseWarns, ArgumentWarns, ArgumentsWarn, else_warned, ProcedureWarns, ParameterWarns, ParametersWarn, PartWarns, DeclarationWarns, DeclarationsWarn, AreWarnings};
+ghost use Rattle.tl_warnings.specs.Finding.{unless as unless_lem, ValueWarns, ValuesWarn, NamedWarns, declared as declared_lem, PlaceWarns, LockedWarns, AskedWarns, BlockWarns, StatementWarns, ElseWarns, ArgumentWarns, ArgumentsWarn, else_warned, ProcedureWarns, ParameterWarns, ParametersWarn, PartWarns, DeclarationWarns, DeclarationsWarn, AreWarnings};
 
 use crate::failing::{action_may_fail, block_may_fail};
 use crate::reading::block_reads;
@@ -38,7 +38,17 @@ fn value(name: Name, known: &[Statement], found: &mut Vec<Warning>) -> Result<()
     unless(is_read, Needless::Value, name.offset, found)
 }
 
-// The same, if there is a name.
+// The values of these names.
+fn values(names: &[Name], known: &[Statement], found: &mut Vec<Warning>) -> Result<(), AllocError>
+    ensures { OnOk result (ValuesWarn known.now found.old.items names.now found.new.items) }
+{
+    for name in names {
+        value(*name, known, found)?;
+    }
+    Ok(())
+}
+
+// The value of that name, if there is a name.
 fn named(
     name: Option<Name>,
     known: &[Statement],
@@ -98,6 +108,7 @@ fn locked(action: &Action, rest: &[Statement], found: &mut Vec<Warning>) -> Resu
         Action::Free(_) => Ok(()),
         Action::Leave(_) => Ok(()),
         Action::Fail(_) => Ok(()),
+        Action::BreakWith(_) => Ok(()),
         Action::Use { .. } => Ok(()),
     }
 }
@@ -164,6 +175,12 @@ fn statement(
             block(body, found)
         }
         StatementForm::Block(body) => block(body, found),
+        StatementForm::Search(turns, names, hit, otherwise) => {
+            block(turns, found)?;
+            values(names, hit, found)?;
+            block(hit, found)?;
+            block(otherwise, found)
+        }
     }
 }
 

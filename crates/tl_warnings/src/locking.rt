@@ -35,6 +35,7 @@ pub fn action_locks(node: Symbol, action: &Action) -> bool
         Action::Free(_) => false,
         Action::Leave(_) => false,
         Action::Fail(_) => false,
+        Action::BreakWith(_) => false,
         Action::Use { arguments, .. } => any_reads(node, arguments),
     }
 }
@@ -79,6 +80,10 @@ fn statement_locks(node: Symbol, statement: &Statement) -> bool
             (parent.symbol.0 == node.0) | block_locks(node, body)
         }
         StatementForm::Block(body) => block_locks(node, body),
+        StatementForm::Search(turns, _, found, otherwise) => {
+            let searched = block_locks(node, turns);
+            searched | (block_locks(node, found) | block_locks(node, otherwise))
+        }
     }
 }
 

@@ -26,6 +26,7 @@ fn behind_action(node: Symbol, action: &Action, locks: bool, before: bool) -> Op
         Action::Take { node: name, .. } => Some(before & (name.symbol.0 != node.0)),
         Action::Leave(_) => None,
         Action::Fail(_) => None,
+        Action::BreakWith(_) => None,
         _ => Some(before | locks),
     }
 }
@@ -79,6 +80,11 @@ fn statement_passes(node: Symbol, statement: &Statement, before: bool) -> Option
             Some(before | locks)
         }
         StatementForm::Block(body) => block_passes(node, body, before),
+        StatementForm::Search(turns, _, found, otherwise) => {
+            let locks = block_locks(node, turns);
+            let first = block_passes(node, found, before | locks);
+            join(first, block_passes(node, otherwise, before | locks))
+        }
     }
 }
 

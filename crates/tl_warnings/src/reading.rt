@@ -96,6 +96,7 @@ fn action_reads(value: Symbol, action: &Action) -> bool
         Action::Free(_) => false,
         Action::Leave(_) => false,
         Action::Fail(code) => reads(value, code),
+        Action::BreakWith(numbers) => any_reads(value, numbers),
         Action::Use { arguments, .. } => any_reads(value, arguments),
     }
 }
@@ -138,6 +139,10 @@ fn statement_reads(value: Symbol, statement: &Statement) -> bool
         StatementForm::Repeat { turns, body, .. } => reads(value, turns) | block_reads(value, body),
         StatementForm::ForEach { body, .. } => block_reads(value, body),
         StatementForm::Block(body) => block_reads(value, body),
+        StatementForm::Search(turns, _, found, otherwise) => {
+            let searched = block_reads(value, turns);
+            searched | (block_reads(value, found) | block_reads(value, otherwise))
+        }
     }
 }
 

@@ -98,6 +98,12 @@ fn statement_walks(
             block_walks(node, body, before | locks, found)
         }
         StatementForm::Block(body) => block_walks(node, body, before, found),
+        StatementForm::Search(turns, _, hit, otherwise) => {
+            let locks = block_locks(node, turns);
+            block_walks(node, turns, before, found)?;
+            block_walks(node, hit, before | locks, found)?;
+            block_walks(node, otherwise, before | locks, found)
+        }
     }
 }
 

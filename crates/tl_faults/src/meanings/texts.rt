@@ -163,7 +163,7 @@ pub fn from_205_to_275(number: u16) -> Option<Meaning> {
         273 => Some(Meaning {
             parts: ", line, column",
             name: "misplaced",
-            when: "the word, number or sign can't stand here, as a `return` in a part; a side of `%`, or the code of a failure, is computed; a part is named `while`",
+            when: "the word, number or sign can't stand here, as a `return` in a part; a side of `%`, or the code of a failure, is computed; a part is named `while` or `found`",
             advice: "look at what stands before it; `language.md` has the grammar",
         }),
         274 => Some(Meaning {
@@ -205,8 +205,8 @@ pub fn from_276_to_289(number: u16) -> Option<Meaning> {
         279 => Some(Meaning {
             parts: ", line, column",
             name: "wrong number of arguments",
-            when: "the procedure has more than 8 arguments, or a part is given more or less than it has names for",
-            advice: "a call takes at most 8 arguments, and a part what stands in its parentheses",
+            when: "the procedure has more than 8 arguments, a part is given more or less than it has names for, or a loop is left with more or fewer numbers than its `found` has names",
+            advice: "a call takes at most 8 arguments, a part what stands in its parentheses, and `break with` a number for each name",
         }),
         280 => Some(Meaning {
             parts: ", line, column",
@@ -259,8 +259,8 @@ pub fn from_276_to_289(number: u16) -> Option<Meaning> {
         288 => Some(Meaning {
             parts: ", line, column",
             name: "no loop",
-            when: "`break` stands outside a loop, or outside those of its part",
-            advice: "use `return` or `fail`",
+            when: "`break` stands outside a loop, or outside those of its part, or `break with` in a loop without `found`",
+            advice: "use `return` or `fail`, or write `found` behind the loop",
         }),
         289 => Some(Meaning {
             parts: "",

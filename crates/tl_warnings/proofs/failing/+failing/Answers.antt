@@ -1,5 +1,5 @@
 use Rattle.std.proofs.Common.{arith}
-use Rattle.tl_warnings.specs.Failing.{BlockFails, no_statements, act, try, if, repeat, for_each, block_alone, no_else, some_else}
+use Rattle.tl_warnings.specs.Failing.{BlockFails, no_statements, act, try, if, repeat, for_each, block_alone, search as searched, no_else, some_else}
 use Rattle.tl_warnings.proofs.ListLemmas.{taken_all}
 use Rattle.tl_warnings.proofs.FailingLemmas.{block_at, block_more}
 use Rattle.tl_warnings.proofs.failing.+failing.Goals as goal
@@ -31,6 +31,12 @@ statement_may_fail-returns-in-ForEach t c = rw c.in-ForEach.is (for_each c.in-Fo
 
 pub statement_may_fail-returns-in-Block : goal.statement_may_fail-returns-in-Block
 statement_may_fail-returns-in-Block t c = rw c.in-Block.is (block_alone c.in-Block.body (block_at c.deref-in-Block.ensures.value c.block_may_fail-in-Block.ensures))
+
+pub statement_may_fail-returns-in-Search : goal.statement_may_fail-returns-in-Search
+statement_may_fail-returns-in-Search t c =
+    rw c.in-Search.is
+    (searched c.in-Search.turns c.in-Search.found c.in-Search.otherwise (block_at c.deref-in-Search.ensures.value c.block_may_fail-in-Search.ensures)
+    (block_at c.deref-in-Search-2.ensures.value c.block_may_fail-in-Search-2.ensures) (block_at c.deref-in-Search-3.ensures.value c.block_may_fail-in-Search-3.ensures))
 
 pub block_may_fail-loop-statement-init : goal.block_may_fail-loop-statement-init
 block_may_fail-loop-statement-init t c = no_statements

@@ -1,4 +1,4 @@
-use Rattle.tl_warnings.specs.Failing.{lets, assigns, writes, emits, requires, locks, descends, takes, frees, leaves, fails_with, uses}
+use Rattle.tl_warnings.specs.Failing.{lets, assigns, writes, emits, requires, locks, descends, takes, frees, leaves, fails_with, breaks_with, uses}
 use Rattle.tl_warnings.proofs.FailingLemmas.{any_at, writes_at}
 use Rattle.tl_warnings.proofs.failing.action_may_fail.Goals as goal
 
@@ -37,3 +37,6 @@ returns-in-Use c = rw c.in-Use.is uses
 
 pub returns-in-Fail : goal.returns-in-Fail
 returns-in-Fail c = rw c.in-Fail.is fails_with
+
+pub returns-in-BreakWith : goal.returns-in-BreakWith
+returns-in-BreakWith c = rw c.in-BreakWith.is (breaks_with (any_at c.deref-in-BreakWith.ensures.value c.any_may_fail-in-BreakWith.ensures))

@@ -1,8 +1,8 @@
 use Rattle.std.proofs.Common.{refl, arith}
 use Rattle.std.proofs.lemmas.Result.{on_ok_weaker}
-use Rattle.tl_warnings.specs.Finding.{act, try, if, repeat, for_each, block_alone, no_else, some_else}
+use Rattle.tl_warnings.specs.Finding.{act, try, if, repeat, for_each, block_alone, search as searched, no_else, some_else}
 use Rattle.tl_warnings.proofs.FailingLemmas.{block_at as fails_at}
-use Rattle.tl_warnings.proofs.FindingLemmas.{asked_at, block_at, named_at, block_next, block_end}
+use Rattle.tl_warnings.proofs.FindingLemmas.{asked_at, block_at, values_at, named_at, block_next, block_end}
 use Rattle.tl_warnings.proofs.ListLemmas.{all_left}
 use Rattle.tl_warnings.proofs.WalkingLemmas.{block_at as walks_at}
 use Rattle.tl_warnings.proofs.finding.+finding.Goals as goal
@@ -43,6 +43,13 @@ statement-returns-in_ok-node-in-ForEach t c =
 pub statement-returns-in-Block : goal.statement-returns-in-Block
 statement-returns-in-Block t c =
     rw c.in-Block.is (on_ok_weaker c.block-in-Block.result (λ w. block_alone c.in-Block.body (block_at c.deref-in-Block.ensures.value refl w)) c.block-in-Block.ensures)
+
+pub statement-returns-in_ok-block-in-Search-2 : goal.statement-returns-in_ok-block-in-Search-2
+statement-returns-in_ok-block-in-Search-2 t c =
+    rw c.in-Search.is (on_ok_weaker c.block-in-Search-3.result (λ w.
+    searched c.in-Search.turns c.in-Search.hit c.in-Search.otherwise (block_at c.deref-in-Search.ensures.value refl c.in_ok-block-in-Search.ensures)
+    (values_at c.deref-in-Search-3.ensures.value c.deref-in-Search-2.ensures.value c.in_ok-values-in-Search.ensures) (block_at c.deref-in-Search-4.ensures.value refl c.in_ok-block-in-Search-2.ensures)
+    (block_at c.deref-in-Search-5.ensures.value refl w)) c.block-in-Search-3.ensures)
 
 pub block-loop-index-preserved : goal.block-loop-index-preserved
 block-loop-index-preserved t c =

@@ -1,5 +1,5 @@
 use Rattle.std.proofs.lemmas.Result.{on_ok_weaker}
-use Rattle.tl_warnings.specs.Finding.{lets, assigns, writes, emits, requires, locks, descends, takes, frees, leaves, fails_with, uses}
+use Rattle.tl_warnings.specs.Finding.{lets, assigns, writes, emits, requires, locks, descends, takes, frees, leaves, fails_with, breaks_with, uses}
 use Rattle.tl_warnings.proofs.finding.locked.Goals as goal
 
 pub returns-in-Let : goal.returns-in-Let
@@ -37,3 +37,6 @@ returns-in-Use c = rw c.in-Use.is uses
 
 pub returns-in-Fail : goal.returns-in-Fail
 returns-in-Fail c = rw c.in-Fail.is fails_with
+
+pub returns-in-BreakWith : goal.returns-in-BreakWith
+returns-in-BreakWith c = rw c.in-BreakWith.is breaks_with

@@ -1,5 +1,5 @@
 use Rattle.std.proofs.Common.{arith}
-use Rattle.tl_warnings.specs.Locking.{BlockLocks, no_statements, act, try, if, repeat, for_each, block_alone, no_else, some_else}
+use Rattle.tl_warnings.specs.Locking.{BlockLocks, no_statements, act, try, if, repeat, for_each, block_alone, search as searched, no_else, some_else}
 use Rattle.tl_warnings.proofs.ListLemmas.{taken_all}
 use Rattle.tl_warnings.proofs.LockingLemmas.{block_at, block_more}
 use Rattle.tl_warnings.proofs.locking.+locking.Goals as goal
@@ -30,6 +30,12 @@ statement_locks-returns-in-ForEach t c = rw c.in-ForEach.is (for_each c.in-ForEa
 
 pub statement_locks-returns-in-Block : goal.statement_locks-returns-in-Block
 statement_locks-returns-in-Block t c = rw c.in-Block.is (block_alone c.in-Block.body (block_at c.deref-in-Block.ensures.value c.block_locks-in-Block.ensures))
+
+pub statement_locks-returns-in-Search : goal.statement_locks-returns-in-Search
+statement_locks-returns-in-Search t c =
+    rw c.in-Search.is
+    (searched c.in-Search.turns c.in-Search.found c.in-Search.otherwise (block_at c.deref-in-Search.ensures.value c.block_locks-searched.ensures)
+    (block_at c.deref-in-Search-2.ensures.value c.block_locks-in-Search.ensures) (block_at c.deref-in-Search-3.ensures.value c.block_locks-in-Search-2.ensures))
 
 pub block_locks-loop-statement-init : goal.block_locks-loop-statement-init
 block_locks-loop-statement-init t c = no_statements

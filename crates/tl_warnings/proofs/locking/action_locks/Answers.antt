@@ -1,4 +1,4 @@
-use Rattle.tl_warnings.specs.Locking.{lets, assigns, writes, emits, requires, locks, descends, takes, frees, leaves, fails_with, uses}
+use Rattle.tl_warnings.specs.Locking.{lets, assigns, writes, emits, requires, locks, descends, takes, frees, leaves, fails_with, breaks_with, uses}
 use Rattle.tl_warnings.proofs.ReadingLemmas.{any_at}
 use Rattle.tl_warnings.proofs.locking.action_locks.Goals as goal
 
@@ -37,3 +37,6 @@ returns-in-Use c = rw c.in-Use.is (uses (any_at c.deref.ensures.value c.any_read
 
 pub returns-in-Fail : goal.returns-in-Fail
 returns-in-Fail c = rw c.in-Fail.is fails_with
+
+pub returns-in-BreakWith : goal.returns-in-BreakWith
+returns-in-BreakWith c = rw c.in-BreakWith.is breaks_with

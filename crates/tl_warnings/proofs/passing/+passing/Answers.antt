@@ -1,5 +1,5 @@
 use Rattle.std.proofs.Common.{◌||◌, ap, arith}
-use Rattle.tl_warnings.specs.Passing.{BlockPasses, no_statements, unreached, reached, act, try, if, repeat, for_each, block_alone, no_else, some_else}
+use Rattle.tl_warnings.specs.Passing.{BlockPasses, no_statements, unreached, reached, act, try, if, repeat, for_each, block_alone, search as searched, no_else, some_else}
 use Rattle.tl_warnings.proofs.ListLemmas.{taken_all}
 use Rattle.tl_warnings.proofs.LockingLemmas.{block_at as locks_at}
 use Rattle.tl_warnings.proofs.PassingLemmas.{block_at, begins_at, block_more}
@@ -40,6 +40,12 @@ statement_passes-returns-in-ForEach t c = rw c.in-ForEach.is (for_each c.in-ForE
 
 pub statement_passes-returns-in-Block : goal.statement_passes-returns-in-Block
 statement_passes-returns-in-Block t c = rw c.in-Block.is (block_alone c.in-Block.body (block_at c.deref-in-Block.ensures.value c.block_passes-in-Block.ensures))
+
+pub statement_passes-returns-in-Search : goal.statement_passes-returns-in-Search
+statement_passes-returns-in-Search t c =
+    rw (c.in-Search.is, c.join-in-Search.ensures)
+    (searched c.in-Search.turns c.in-Search.found c.in-Search.otherwise (locks_at c.deref-in-Search.ensures.value c.block_locks-locks-in-Search.ensures)
+    (block_at c.deref-in-Search-2.ensures.value c.block_passes-first-in-Search.ensures) (block_at c.deref-in-Search-3.ensures.value c.block_passes-in-Search.ensures))
 
 pub block_passes-loop-statement-init : goal.block_passes-loop-statement-init
 block_passes-loop-statement-init t c = no_statements

@@ -1,5 +1,5 @@
 use Rattle.std.proofs.Common.{arith}
-use Rattle.tl_warnings.specs.Reading.{BlockReads, no_statements, act, try, if, repeat, for_each, block_alone, no_else, some_else}
+use Rattle.tl_warnings.specs.Reading.{BlockReads, no_statements, act, try, if, repeat, for_each, block_alone, search as searched, no_else, some_else}
 use Rattle.tl_warnings.proofs.ListLemmas.{taken_all}
 use Rattle.tl_warnings.proofs.ReadingLemmas.{block_at, block_more}
 use Rattle.tl_warnings.proofs.reading.+reading.Goals as goal
@@ -30,6 +30,12 @@ statement_reads-returns-in-ForEach t c = rw c.in-ForEach.is (for_each c.in-ForEa
 
 pub statement_reads-returns-in-Block : goal.statement_reads-returns-in-Block
 statement_reads-returns-in-Block t c = rw c.in-Block.is (block_alone c.in-Block.body (block_at c.deref-in-Block.ensures.value c.block_reads-in-Block.ensures))
+
+pub statement_reads-returns-in-Search : goal.statement_reads-returns-in-Search
+statement_reads-returns-in-Search t c =
+    rw c.in-Search.is
+    (searched c.in-Search.turns c.in-Search.found c.in-Search.otherwise (block_at c.deref-in-Search.ensures.value c.block_reads-searched.ensures)
+    (block_at c.deref-in-Search-2.ensures.value c.block_reads-in-Search.ensures) (block_at c.deref-in-Search-3.ensures.value c.block_reads-in-Search-2.ensures))
 
 pub block_reads-loop-statement-init : goal.block_reads-loop-statement-init
 block_reads-loop-statement-init t c = no_statements

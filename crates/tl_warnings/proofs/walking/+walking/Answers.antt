@@ -1,6 +1,6 @@
 use Rattle.std.proofs.Common.{◌||◌, refl, ap, ◌∙◌, arith}
 use Rattle.std.proofs.lemmas.Result.{on_ok_weaker}
-use Rattle.tl_warnings.specs.Walking.{walk_warned, no_statements, unreached, reached, act, try, if, repeat, for_each, block_alone, no_else, some_else}
+use Rattle.tl_warnings.specs.Walking.{walk_warned, no_statements, unreached, reached, act, try, if, repeat, for_each, block_alone, search as searched, no_else, some_else}
 use Rattle.tl_warnings.proofs.LockingLemmas.{block_at as locks_at}
 use Rattle.tl_warnings.proofs.PassingLemmas.{block_at as passes_at}
 use Rattle.tl_warnings.proofs.WalkingLemmas.{block_at, begins_at, walks_more, walks_end}
@@ -50,6 +50,13 @@ statement_walks-returns-in_ok-walk-in-ForEach t c =
 pub statement_walks-returns-in-Block : goal.statement_walks-returns-in-Block
 statement_walks-returns-in-Block t c =
     rw c.in-Block.is (on_ok_weaker c.block_walks-in-Block.result (λ w. block_alone c.in-Block.body (block_at c.deref-in-Block.ensures.value refl w)) c.block_walks-in-Block.ensures)
+
+pub statement_walks-returns-in_ok-block_walks-in-Search-2 : goal.statement_walks-returns-in_ok-block_walks-in-Search-2
+statement_walks-returns-in_ok-block_walks-in-Search-2 t c =
+    rw c.in-Search.is (on_ok_weaker c.block_walks-in-Search-3.result (λ w.
+    searched c.in-Search.turns c.in-Search.hit c.in-Search.otherwise (locks_at c.deref-in-Search.ensures.value c.block_locks-locks-in-Search.ensures)
+    (block_at c.deref-in-Search-2.ensures.value refl c.in_ok-block_walks-in-Search.ensures) (block_at c.deref-in-Search-3.ensures.value refl c.in_ok-block_walks-in-Search-2.ensures)
+    (block_at c.deref-in-Search-4.ensures.value refl w)) c.block_walks-in-Search-3.ensures)
 
 pub block_walks-loop-statement-init : goal.block_walks-loop-statement-init
 block_walks-loop-statement-init t c = no_statements

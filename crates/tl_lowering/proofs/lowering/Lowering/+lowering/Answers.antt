@@ -14,24 +14,26 @@ use Rattle.tl_lowering.specs.Sound.{IsWellFormed}
 use Rattle.tl_lowering.proofs.DescendLemmas.{turns_begin, same_turn}
 use Rattle.tl_lowering.proofs.PutLemmas.{turn_is_no_walk}
 use Rattle.tl_lowering.proofs.BodyLemmas.{on_ok, then_flow, same_draft, same_behind, back, loop_back, at_as, at_known, same_repetition, is_turn, turn_in}
-use Rattle.tl_lowering.proofs.DepthLemmas.{weight, falls_in_else, falls_in_repeat, falls_in_tried, falls_in_first, falls_in_second, falls_in_visit, falls_in_block, falls_in_part}
+use Rattle.tl_lowering.proofs.DepthLemmas.{weight, falls_in_else, falls_in_repeat, falls_in_tried, falls_in_if, falls_in_visit, falls_in_block, falls_in_search, falls_in_part}
 use Rattle.tl_lowering.proofs.DraftLemmas.{none_read, none_behind, extended_paths, extended_draft, opened_paths, opened_draft, block_lowered}
 use Rattle.tl_lowering.proofs.LoweringLemmas.{at_exactly, at_behind, at_handler, extends_self, extends_same}
 use Rattle.std.proofs.lemmas.List.{take_all}
 use Rattle.tl_lowering.specs.Entering.{before_of, before_body, entered_at, entered_of, EntersSoFar}
 use Rattle.tl_lowering.specs.Passing.{or_of, KeepsOut}
 use Rattle.tl_lowering.proofs.EnterLemmas.{none_entered, then_entered, plain_entered, opened_entered, tried_entering, entering_as, finished_entering}
-use Rattle.tl_lowering.specs.Failing.{readers_of, reading}
-use Rattle.tl_lowering.specs.Names.{Names, IsNew, names_in, names_of, inside, with_unnamed}
+use Rattle.tl_lowering.specs.Failing.{reading}
+use Rattle.tl_lowering.specs.Names.{Names, IsNew, names_in, names_of, inside, with_unnamed, with_room, with_variables, AreFound}
+use Rattle.tl_lowering.specs.declared.readers.Finding.{Finding}
 use Rattle.std.specs.Prelude.{option_map}
 use Rattle.tl_syntax.specs.declared.parsed.Expression.{Expression as TextExpression}
 use Rattle.tl_syntax.specs.declared.parsed.StatementForm.TheVariants as T
-use Rattle.tl_lowering.specs.Choosing.{IsTurnBody, IsRepeated}
+use Rattle.tl_lowering.specs.Choosing.{IsTurnBody, IsRepeated, IsSearched}
 use Rattle.tl_lowering.proofs.AlikeBlocks.{turn_once}
 use Rattle.tl_lowering.specs.Drafts.{no_else, one_else, IsHandled}
-use Rattle.tl_lowering.specs.Reading.{IsBlock, act, plain as by_itself, requires, fails_with, block_alone}
+use Rattle.tl_lowering.specs.Reading.{IsBlock, AreNothing, act, plain as by_itself, requires, fails_with, block_alone}
 use Rattle.tl_lowering.proofs.PathLemmas.{ok_more, both_ok}
-use Rattle.tl_lowering.proofs.PartLemmas.{none_part, more_part, whole_part, plain_extended, opened_extended, opens_at, tried_statement, handled_statement, chosen_statement, repeated_statement, visited_statement, forms_of, loop_at, block_at, used_action, plain_left, told_statement, heard_of, missing_named}
+use Rattle.tl_lowering.proofs.PartLemmas.{none_part, more_part, whole_part, plain_extended, opened_extended, opens_at, tried_statement, handled_statement, chosen_statement, repeated_statement, visited_statement, forms_of, loop_at, block_at, used_action, plain_left, told_statement, heard_of, missing_named, searched_statement}
+use Rattle.tl_lowering.proofs.FoundLemmas.{pair_lowered, pair_entering}
 use Rattle.tl_lowering.proofs.MarkLemmas.{failure_lowered}
 use Rattle.tl_lowering.proofs.GivenLemmas.{lowered_there, lowered_as, lowered_in_loops, given_none, given_node, given_variable, given_value, given_at, same_before, turn_as}
 use Rattle.tl_lowering.proofs.WriteLemmas.{computed_lowered, computed_entering}
@@ -42,7 +44,7 @@ block-loop-statement-init t c =
     let scope : View = view_of c.args.self.now.scope in
     let draft : Draft = record { opened = c.new.result; statements = c.new-2.result; flow = c.on.result } in
     record {
-      named = none_part c.args.before.now (readers_of c.args.reader) (names_of c.args.self.now.scope) draft c.new.ensures.items c.new-2.ensures.items;
+      named = none_part c.args.before.now c.args.readers.now (names_of c.args.self.now.scope) draft c.new.ensures.items c.new-2.ensures.items;
       draft = none_read scope c.args.held draft c.new.ensures.items c.new-2.ensures.items;
       entering = none_entered (before_of c.args.held) draft (entered_of draft.flow) c.new.ensures.items c.new-2.ensures.items c.on.ensures.entered;
       flow = c.on.ensures.paths ∙ sym (none_behind scope c.args.held draft c.new.ensures.items c.new-2.ensures.items);
@@ -242,8 +244,8 @@ told-returns-clause-scope t c =
 
 pub told-returns-clause-named : goal.told-returns-clause-named
 told-returns-clause-named t c =
-    let block = rw c.add_value.ensures.named at c.in_ok-lowered.ensures.named in
-    subst (λ r. IsBlock c.args.before.now (readers_of (Some r)) (with_unnamed (names_of c.args.self.now.scope)) c.args.body.now c.in_ok-lowered.lowered.0) c.in_ok-register.ensures.register block
+    let block = rw c.reading-reading.ensures at (rw c.add_value.ensures.named at c.in_ok-lowered.ensures.named) in
+    subst (λ r. IsBlock c.args.before.now (reading c.args.readers.now r) (with_unnamed (names_of c.args.self.now.scope)) c.args.body.now c.in_ok-lowered.lowered.0) c.in_ok-register.ensures.register block
 
 pub told-returns-clause-lowered : goal.told-returns-clause-lowered
 told-returns-clause-lowered t c =
@@ -291,7 +293,7 @@ heard-returns-clause-entering t c = both_ok c.let_in.result _ _ _ c.let_in.ensur
 
 pub tried-returns-in_default-clause-named : goal.tried-returns-in_default-clause-named
 tried-returns-in_default-clause-named t c =
-    let block = c.in_ok-lowered.ensures.named in
+    let block = rw c.unread-unread.ensures at c.in_ok-lowered.ensures.named in
     rw c.in_default.is (ok_more c.handled.result _ _ c.handled.ensures.named (λ l h xs ys e f. tried_statement xs ys (ap names_in c.in_ok-lowered.ensures.scope) e f block h))
 
 pub tried-returns-clause-named : goal.tried-returns-clause-named
@@ -311,22 +313,32 @@ acted-returns-in_ok-number-in-Fail-clause-named t c = rw c.in-Fail.is (ok_more c
 pub acted-returns-in_ok-number-in-Fail-clause-lowered : goal.acted-returns-in_ok-number-in-Fail-clause-lowered
 acted-returns-in_ok-number-in-Fail-clause-lowered t c = ok_more c.failure.result _ _ c.failure.ensures.refusal (λ l h. failure_lowered h)
 
+pub acted-returns-in-BreakWith-clause-named : goal.acted-returns-in-BreakWith-clause-named
+acted-returns-in-BreakWith-clause-named t c =
+    rw c.in-BreakWith.is (ok_more c.break_with.result _ _ (c.break_with.ensures.named c.args.before.now c.in-BreakWith.values c.deref-in-BreakWith.ensures.value) (λ l h plain. h))
+
 pub acted-returns-in_default-clause-named : goal.acted-returns-in_default-clause-named
 acted-returns-in_default-clause-named t c =
     let other = c.in_default in
-    ok_more c.action.result _ _ c.action.ensures.named (λ l h plain. by_itself (h (plain_left c.args.action.now plain other.not-Use other.not-Require other.not-Leave other.not-Fail)))
+    ok_more c.action.result _ _ c.action.ensures.named (λ l h plain. by_itself (h (plain_left c.args.action.now plain other.not-Use other.not-Require other.not-Leave other.not-Fail other.not-BreakWith)))
 
-pub statement-first_block-requires : goal.statement-first_block-requires
-statement-first_block-requires t c = (
-  falls_in_first t 2 (weight c.args.before.now) c.args.form.now c.in-If.question c.in-If.body c.in-If.otherwise c.deref-in-If.result.now c.decreases c.deref-in-If.ensures.value (omega arith) c.in-If.is,
-  (c.requires, c.in_ok-entrance-in-If.ensures.entrance),
-)
+pub choice-first_block-requires : goal.choice-first_block-requires
+choice-first_block-requires t c = (omega (arith, c.decreases), (c.requires, c.in_ok-entrance.ensures.entrance))
 
-pub statement-block-requires : goal.statement-block-requires
-statement-block-requires t c = (
-  falls_in_second t 1 (weight c.args.before.now) c.args.form.now c.in-If.question c.in-If.body c.in-If.otherwise c.deref-in-If-2.result.now c.decreases c.deref-in-If-2.ensures.value (omega arith) c.in-If.is,
-  subst (λ v. IsAt v c.args.held) (sym c.in_ok-first-in-If.ensures.scope) c.requires,
-)
+pub choice-block-requires : goal.choice-block-requires
+choice-block-requires t c = (omega (arith, c.decreases), subst (λ v. IsAt v c.args.held) (sym c.in_ok-first.ensures.scope) c.requires)
+
+pub choice-returns-clause-named : goal.choice-returns-clause-named
+choice-returns-clause-named t c =
+    let first = c.in_ok-first.ensures in
+    let second = c.in_ok-second.ensures in
+    ok_more c.chosen.result _ _ c.chosen.ensures.named
+    (λ l h xs ys e f. chosen_statement xs ys c.in_ok-entrance.ensures.named (block_at refl e first.named) (block_at (ap names_in first.scope) f second.named) h)
+
+pub statement-choice-requires : goal.statement-choice-requires
+statement-choice-requires t c =
+    let r = c.in-If in
+    (falls_in_if t (weight c.args.before.now) c.args.form.now r.question r.body r.otherwise c.deref-in-If.result.now c.deref-in-If-2.result.now c.decreases c.deref-in-If.ensures.value c.deref-in-If-2.ensures.value r.is, c.requires)
 
 pub statement-turns-requires-in-ForEach : goal.statement-turns-requires-in-ForEach
 statement-turns-requires-in-ForEach t c =
@@ -335,8 +347,8 @@ statement-turns-requires-in-ForEach t c =
       (c.requires, (c.in_ok-repetition-in-ForEach.ensures.repetition, (c.in_ok-repetition-in-ForEach.ensures.depth, c.in_ok-repetition-in-ForEach.ensures.fresh))),
     )
 
-pub statement-block-requires-in-Block : goal.statement-block-requires-in-Block
-statement-block-requires-in-Block t c =
+pub statement-block-requires : goal.statement-block-requires
+statement-block-requires t c =
     (falls_in_block t 1 (weight c.args.before.now) c.args.form.now c.in-Block.body c.deref-in-Block.result.now c.decreases c.deref-in-Block.ensures.value (omega arith) c.in-Block.is, c.requires)
 
 pub turn-returns-clause-scope : goal.turn-returns-clause-scope
@@ -350,7 +362,7 @@ turn-returns-clause-scope t c =
 
 pub turn-returns-clause-named : goal.turn-returns-clause-named
 turn-returns-clause-named t c =
-    let read = subst (λ n. IsBlock c.args.before.now (readers_of c.args.reader) n c.args.body.now c.in_ok-body.body) c.in_ok-inside.ensures.named c.in_ok-body.ensures.named in
+    let read = subst (λ n. IsBlock c.args.before.now c.args.readers.now n c.args.body.now c.in_ok-body.body) c.in_ok-inside.ensures.named c.in_ok-body.ensures.named in
     record { read = c.in_ok-body.body; read_is = read; kept_is = c.in_ok-body-2.ensures.named }
 
 pub turn-returns-clause-turn : goal.turn-returns-clause-turn
@@ -378,7 +390,7 @@ turn-returns-clause-once t c = c.in_ok-flow.ensures.once
 pub block-returns-clause-named : goal.block-returns-clause-named
 block-returns-clause-named t c =
     let part = c.loop-statement.invariant.named in
-    subst (λ xs. IsBlock c.args.before.now (readers_of c.args.reader) (names_of c.args.self.now.scope) xs c.in_ok-finished.field-0) (take_all c.loop-statement.statement-index c.args.statements.now (omega arith))
+    subst (λ xs. IsBlock c.args.before.now c.args.readers.now (names_of c.args.self.now.scope) xs c.in_ok-finished.field-0) (take_all c.loop-statement.statement-index c.args.statements.now (omega arith))
     (whole_part part c.in_ok-finished.ensures.named)
 
 pub extend-returns-in_default-clause-named : goal.extend-returns-in_default-clause-named
@@ -395,18 +407,12 @@ extend-returns-clause-named t c =
     let earlier : c.replace-earlier.result.items ≡ c.args.draft.now.statements.items = search rules in
     let none : c.replace-earlier.new.dest.items ≡ [] = search rules in
     let opening = rw c.in-Some.is at c.in_ok-head.ensures.named in
-    let opens = opens_at (ap names_in c.in_ok-otherwise.ensures.scope) opening c.in_ok-otherwise.ensures.named (c.in_ok-binding.ensures.named c.args.before.now (readers_of c.args.reader)) in
+    let opens = opens_at (ap names_in c.in_ok-otherwise.ensures.scope) opening c.in_ok-otherwise.ensures.named (c.in_ok-binding.ensures.named c.args.before.now c.args.readers.now) in
     opened_extended c.args.statement.now c.args.draft.now draft c.in_ok-binding.flow opened opens refl earlier c.in_ok-push-2.ensures.items none
 
-pub statement-returns-in_ok-second-in-If-clause-named : goal.statement-returns-in_ok-second-in-If-clause-named
-statement-returns-in_ok-second-in-If-clause-named t c =
-    let first = c.in_ok-first-in-If.ensures in
-    let second = c.in_ok-second-in-If.ensures in
-    rw c.in-If.is
-    (ok_more c.chosen.result _ _ c.chosen.ensures.named
-    (λ l h plain.
-    chosen_statement c.in-If.body c.in-If.otherwise c.in_ok-entrance-in-If.ensures.named (block_at refl c.deref-in-If.ensures.value first.named)
-    (block_at (ap names_in first.scope) c.deref-in-If-2.ensures.value second.named) h))
+pub statement-returns-in-If-clause-named : goal.statement-returns-in-If-clause-named
+statement-returns-in-If-clause-named t c =
+    rw c.in-If.is (ok_more c.choice.result _ _ c.choice.ensures.named (λ l h plain. h c.in-If.body c.in-If.otherwise c.deref-in-If.ensures.value c.deref-in-If-2.ensures.value))
 
 pub statement-returns-in_ok-repetition-in-Repeat-clause-named : goal.statement-returns-in_ok-repetition-in-Repeat-clause-named
 statement-returns-in_ok-repetition-in-Repeat-clause-named t c =
@@ -426,7 +432,7 @@ statement-returns-in_ok-repetition-in-ForEach-clause-named t c =
 
 pub statement-returns-in-Block-clause-named : goal.statement-returns-in-Block-clause-named
 statement-returns-in-Block-clause-named t c =
-    rw c.in-Block.is (ok_more c.block-in-Block.result _ _ c.block-in-Block.ensures.named (λ l h plain. block_alone c.in-Block.body (block_at refl c.deref-in-Block.ensures.value h)))
+    rw c.in-Block.is (ok_more c.block.result _ _ c.block.ensures.named (λ l h plain. block_alone c.in-Block.body (block_at refl c.deref-in-Block.ensures.value h)))
 
 pub statement-returns-in-None-clause-named : goal.statement-returns-in-None-clause-named
 statement-returns-in-None-clause-named t c =
@@ -437,17 +443,162 @@ pub statement-returns-in_ok-lowered-in-Some-clause-named : goal.statement-return
 statement-returns-in_ok-lowered-in-Some-clause-named t c =
     let form : c.args.form.now ≡ T.Act c.in-Act.action (Some c.in-Some.otherwise) = c.in-Act.is ∙ ap (T.Act c.in-Act.action) c.in-Some.is in
     let acted = c.in_ok-lowered-in-Some in
-    let handled = subst (λ n. IfOk c.handled.result (λ l. IsHandled c.args.before.now (readers_of c.args.reader) n acted.lowered.0 c.deref.result.now l.0)) (ap names_in acted.ensures.scope) c.handled.ensures.named in
-    rw form (ok_more c.handled.result _ _ handled (λ l h plain. handled_statement (acted.ensures.named plain) c.deref.ensures.value h))
+    let handled = subst (λ n. IfOk c.handled.result (λ l. IsHandled c.args.before.now c.args.readers.now n acted.lowered.0 c.deref.result.now l.0)) (ap names_in acted.ensures.scope) c.handled.ensures.named in
+    rw form (ok_more c.handled.result _ _ handled (λ l h plain. handled_statement (rw c.unread-unread.ensures at acted.ensures.named plain) c.deref.ensures.value h))
 
 pub refusal-returns-in_default-otherwise-clause-named : goal.refusal-returns-in_default-otherwise-clause-named
 refusal-returns-in_default-otherwise-clause-named t c =
     let form : c.args.statement.now.form ≡ T.Act c.in-Act.field-0 None = c.in-Act.is ∙ ap (T.Act c.in-Act.field-0) c.in_default-otherwise.is in
-    missing_named c.args.before.now (readers_of c.args.reader) (names_of c.args.self.now.scope) c.args.head.now c.in-Act.field-0 c.missing_else.result form c.missing_else.ensures.none c.missing_else.ensures.told
+    missing_named c.args.before.now c.args.readers.now (names_of c.args.self.now.scope) c.args.head.now c.in-Act.field-0 c.missing_else.result form c.missing_else.ensures.none c.missing_else.ensures.told
 
 pub refusal-returns-clause-named : goal.refusal-returns-clause-named
 refusal-returns-clause-named t c = λ action o form.
     one_else (c.in-Act.is ∙ ap (T.Act c.in-Act.field-0) c.in-Some.is) (block_at refl c.deref.ensures.value c.in_ok-statement.ensures.named)
+
+-- ---- loops that are left with numbers
+
+pub found-block-requires : goal.found-block-requires
+found-block-requires t c =
+    let more = c.in_ok-declare_found.ensures in
+    (omega (arith, c.decreases), record { names = more.in_use c.requires.at.names; nodes = subst (λ m. AreFree m (nodes_of c.args.held)) (sym more.nodes) c.requires.at.nodes })
+
+pub found-returns-clause-scope : goal.found-returns-clause-scope
+found-returns-clause-scope t c =
+    let mark = c.mark-mark.ensures in
+    let left = c.return_to.ensures in
+    let more = c.in_ok-declare_found.ensures in
+    let same = c.in_ok-first.ensures.scope in
+    back (view_of c.args.self.now.scope) (view_of c.declare_found.new.self.scope) (view_of c.block.new.self.scope) (view_of c.return_to.new.self) c.mark-mark.result.local more.extends same mark.local left.meanings left.fields
+    left.procedures left.local (left.values ∙ mark.values) (left.nodes ∙ mark.nodes) (left.loops ∙ ap (λ (v : View). v.loops) same ∙ more.loops)
+
+pub found-returns-clause-named : goal.found-returns-clause-named
+found-returns-clause-named t c = rw c.in_ok-declare_found.ensures.named at c.in_ok-first.ensures.named
+
+pub found-returns-clause-lowered : goal.found-returns-clause-lowered
+found-returns-clause-lowered t c =
+    let more = c.in_ok-declare_found.ensures in
+    lowered_as (view_of c.declare_found.new.self.scope) (view_of c.args.self.now.scope) c.args.held more.values more.nodes more.loops c.in_ok-first.ensures.lowered
+
+pub searched-block-requires : goal.searched-block-requires
+searched-block-requires t c = (omega (arith, c.decreases), c.requires.at)
+
+pub searched-found-requires : goal.searched-found-requires
+searched-found-requires t c =
+    let back = sym c.in_ok-turned.ensures.scope in
+    let behind = rw c.in-Some.is at (at_behind (view_of c.args.self.now.scope) c.args.held c.in_ok-turned.turned c.in_ok-turned.flow c.requires.at c.in_ok-turned.ensures.lowered) in
+    (omega (arith, c.decreases), (subst (λ v. IsAt v c.in-Some.behind) back behind, omega (arith, c.requires.room, ap (λ (v : View). v.values) back)))
+
+pub searched-block-requires-2 : goal.searched-block-requires-2
+searched-block-requires-2 t c =
+    let back = sym (c.in_ok-first.ensures.scope ∙ c.in_ok-turned.ensures.scope) in
+    let behind = rw c.in-Some.is at (at_behind (view_of c.args.self.now.scope) c.args.held c.in_ok-turned.turned c.in_ok-turned.flow c.requires.at c.in_ok-turned.ensures.lowered) in
+    (omega (arith, c.decreases), subst (λ v. IsAt v c.in-Some.behind) back behind)
+
+pub searched-chosen-requires-clause-at : goal.searched-chosen-requires-clause-at
+searched-chosen-requires-clause-at t c =
+    let back = sym (c.in_ok-second.ensures.scope ∙ c.in_ok-first.ensures.scope ∙ c.in_ok-turned.ensures.scope) in
+    let behind = rw c.in-Some.is at (at_behind (view_of c.args.self.now.scope) c.args.held c.in_ok-turned.turned c.in_ok-turned.flow c.requires.at c.in_ok-turned.ensures.lowered) in
+    subst (λ v. IsAt v c.in-Some.behind) back behind
+
+pub searched-chosen-requires-clause-entrance : goal.searched-chosen-requires-clause-entrance
+searched-chosen-requires-clause-entrance t c =
+    let back = sym (c.in_ok-second.ensures.scope ∙ c.in_ok-first.ensures.scope ∙ c.in_ok-turned.ensures.scope) in (omega (arith, c.requires.room, ap (λ (v : View). v.values) back), tt)
+
+pub searched-chosen-requires-clause-first : goal.searched-chosen-requires-clause-first
+searched-chosen-requires-clause-first t c =
+    let back = sym (c.in_ok-second.ensures.scope ∙ c.in_ok-first.ensures.scope) in
+    let l = lowered_there back c.in_ok-first.ensures.lowered in
+    record { sound = l.sound; paths = l.paths }
+
+pub searched-chosen-requires-clause-second : goal.searched-chosen-requires-clause-second
+searched-chosen-requires-clause-second t c = lowered_there (sym c.in_ok-second.ensures.scope) c.in_ok-second.ensures.lowered
+
+pub searched-returns-clause-scope : goal.searched-returns-clause-scope
+searched-returns-clause-scope t c = c.in_ok-second.ensures.scope ∙ c.in_ok-first.ensures.scope ∙ c.in_ok-turned.ensures.scope
+
+pub searched-returns-clause-named : goal.searched-returns-clause-named
+searched-returns-clause-named t c =
+    let names = names_of c.args.self.now.scope in
+    let one = ap names_in c.in_ok-turned.ensures.scope in
+    let two = ap names_in (c.in_ok-first.ensures.scope ∙ c.in_ok-turned.ensures.scope) in
+    let all = ap (λ (v : View). v.values) (c.in_ok-second.ensures.scope ∙ c.in_ok-first.ensures.scope ∙ c.in_ok-turned.ensures.scope) in
+    let finding = c.args.finding.now in
+    let called = c.args.search.1.now in
+    record {
+      turned = c.in_ok-turned.turned;
+      first = c.in_ok-first.first.0;
+      second = c.in_ok-second.second.0;
+      choice = c.in_ok-choice.choice;
+      room = omega (arith, all, c.in_ok-check_registers.ensures);
+      turned_is = subst (λ z. IsBlock c.args.before.now z names c.args.search.0.now c.in_ok-turned.turned) c.searching-inside.ensures c.in_ok-turned.ensures.named;
+      fresh = subst (λ n. AreFound n (finding.flag + 1) called) one c.in_ok-first.ensures.fresh;
+      first_is = subst (λ n. IsBlock c.args.before.now c.args.readers.now (with_variables n (finding.flag + 1) called) c.args.search.2.now c.in_ok-first.first.0) one c.in_ok-first.ensures.named;
+      second_is = block_at two refl c.in_ok-second.ensures.named;
+      choice_is = c.in_ok-choice.ensures.named;
+      whole_is = c.in_ok-whole.ensures.named;
+    }
+
+pub searched-returns-clause-lowered : goal.searched-returns-clause-lowered
+searched-returns-clause-lowered t c =
+    let all = c.in_ok-second.ensures.scope ∙ c.in_ok-first.ensures.scope ∙ c.in_ok-turned.ensures.scope in
+    pair_lowered c.in_ok-turned.ensures.lowered c.in-Some.is (lowered_there all c.in_ok-choice.ensures.lowered) c.in_ok-whole.ensures.named c.then-flow.ensures.paths
+
+pub searched-returns-clause-entering : goal.searched-returns-clause-entering
+searched-returns-clause-entering t c = pair_entering c.in_ok-turned.ensures.entering (ap entered_at c.in-Some.is) c.in_ok-choice.ensures.entering c.in_ok-whole.ensures.named c.then-flow.ensures.entered
+
+pub search-searched-requires : goal.search-searched-requires
+search-searched-requires t c =
+    let more = c.in_ok-add_values.ensures in
+    let flag = ap (λ (f : Finding). f.flag) c.in_ok-finding.ensures.finding in (
+      omega (arith, c.decreases),
+      (record { names = more.in_use c.requires.names; nodes = subst (λ m. AreFree m (nodes_of c.args.held)) (sym more.nodes) c.requires.nodes }, omega (arith, flag, more.values)),
+    )
+
+pub search-returns-clause-scope : goal.search-returns-clause-scope
+search-returns-clause-scope t c =
+    let old : View = view_of c.args.self.now.scope in
+    let mark = c.mark-mark.ensures in
+    let left = c.return_to.ensures in
+    let more = c.in_ok-add_values.ensures in
+    let same = c.in_ok-whole.ensures.scope in
+    on_ok c.with_nothing.result _
+    (back old (view_of c.add_values.new.self) (view_of c.searched.new.self.scope) (view_of c.return_to.new.self) c.mark-mark.result.local
+    (λ outer e. extends_same outer old (view_of c.add_values.new.self) e more.meanings more.local more.fields more.procedures) same mark.local left.meanings left.fields left.procedures left.local (left.values ∙ mark.values)
+    (left.nodes ∙ mark.nodes) (left.loops ∙ ap (λ (v : View). v.loops) same ∙ more.loops))
+
+pub search-returns-clause-named : goal.search-returns-clause-named
+search-returns-clause-named t c =
+    let flag = ap (λ (f : Finding). f.flag) c.in_ok-finding.ensures.finding in
+    let names = names_of c.args.self.now.scope in
+    let searched = rw c.in_ok-add_values.ensures.named at c.in_ok-whole.ensures.named in
+    let here = subst (λ f. IsSearched c.args.before.now c.args.readers.now (with_room names (length c.args.search.1.now + 1)) f c.args.search.0.now c.args.search.1.now c.args.search.2.now c.args.search.3.now c.in_ok-whole.whole.0) c.in_ok-finding.ensures.finding searched in
+    ok_more c.with_nothing.result _ _ c.with_nothing.ensures.named
+    (λ l h. record { searched = c.in_ok-whole.whole.0; deep = c.in_ok-finding.ensures.depth; searched_is = here; whole_is = subst (λ z. AreNothing z (length c.args.search.1.now + 1) c.in_ok-whole.whole.0 l.0) flag h })
+
+pub search-returns-clause-lowered : goal.search-returns-clause-lowered
+search-returns-clause-lowered t c =
+    let scope : View = view_of c.args.self.now.scope in
+    let more = c.in_ok-add_values.ensures in
+    c.with_nothing.ensures.lowered scope (ap (λ (f : Finding). f.flag) c.in_ok-finding.ensures.finding)
+    (lowered_as (view_of c.add_values.new.self) (record scope { values = scope.values + (length c.args.search.1.now + 1) }) c.args.held more.values more.nodes more.loops c.in_ok-whole.ensures.lowered)
+
+pub search-returns-clause-entering : goal.search-returns-clause-entering
+search-returns-clause-entering t c = c.with_nothing.ensures.entering c.in_ok-whole.ensures.entering
+
+pub statement-search-requires : goal.statement-search-requires
+statement-search-requires t c =
+    let s = c.in-Search in (
+      falls_in_search t (weight c.args.before.now) c.args.form.now s.turns s.names s.found s.otherwise c.deref-in-Search.result.now c.deref-in-Search-3.result.now c.deref-in-Search-4.result.now c.decreases c.deref-in-Search.ensures.value
+          c.deref-in-Search-3.ensures.value c.deref-in-Search-4.ensures.value s.is,
+      c.requires,
+    )
+
+pub statement-returns-in-Search-clause-named : goal.statement-returns-in-Search-clause-named
+statement-returns-in-Search-clause-named t c =
+    let s = c.in-Search in
+    rw s.is
+    (ok_more c.search.result _ _ c.search.ensures.named
+    (λ l h plain. searched_statement s.turns s.found s.otherwise s.names c.deref-in-Search.ensures.value c.deref-in-Search-2.ensures.value c.deref-in-Search-3.ensures.value c.deref-in-Search-4.ensures.value h))
 
 -- ---- where the tree may have been entered
 
@@ -488,7 +639,7 @@ used-returns-clause-named t c =
       part = c.in_ok-part.part.now;
       index_is = c.in_ok-part.ensures.index;
       part_is = c.in_ok-part.ensures.part;
-      given = given_at (search rules) (ap names_of outer) (ap names_of inner ∙ names) c.deref-2.ensures.value c.deref.ensures.value c.in_ok-lowered.ensures.given;
+      given = given_at (search rules) (ap names_of outer) (ap names_of inner ∙ names) c.deref-2.ensures.value c.deref.ensures.value (rw c.in_part-inside.ensures at c.in_ok-lowered.ensures.given);
       nests = rw outer at c.in_ok-check_nesting.ensures;
     }
 
@@ -622,7 +773,7 @@ turns-repeated-requires-2-clause-repetition t c = let back = sym (c.in_ok-again.
 
 pub turns-repeated-requires-2-clause-before : goal.turns-repeated-requires-2-clause-before
 turns-repeated-requires-2-clause-before t c =
-    let named = subst (λ (v : View). IsTurnBody c.args.before.now (readers_of c.args.reader) (names_in v) c.args.repetition c.args.body.now c.in_ok-again.again.0) c.in_ok-first.ensures.scope c.in_ok-again.ensures.named in
+    let named = subst (λ (v : View). IsTurnBody c.args.before.now c.args.readers.now (names_in v) c.args.repetition c.args.body.now c.in_ok-again.again.0) c.in_ok-first.ensures.scope c.in_ok-again.ensures.named in
     turns_begin c.args.held c.forgetting-start.result c.args.repetition c.passed_down.result c.in_ok-again.again.0
     (λ n. c.passed_down.ensures n ∙ same_turn c.args.repetition n (turn_once c.in_ok-first.ensures.named named)) c.forgetting-start.ensures.entered c.forgetting-start.ensures.passed
 
@@ -652,7 +803,7 @@ turns-returns-clause-scope t c = on_ok c.repeated-2.result _ (c.in_ok-again.ensu
 
 pub turns-returns-clause-named : goal.turns-returns-clause-named
 turns-returns-clause-named t c =
-    let named = subst (λ (v : View). IsTurnBody c.args.before.now (readers_of c.args.reader) (names_in v) c.args.repetition c.args.body.now c.in_ok-again.again.0) c.in_ok-first.ensures.scope c.in_ok-again.ensures.named in
+    let named = subst (λ (v : View). IsTurnBody c.args.before.now c.args.readers.now (names_in v) c.args.repetition c.args.body.now c.in_ok-again.again.0) c.in_ok-first.ensures.scope c.in_ok-again.ensures.named in
     ok_more c.repeated-2.result _ _ c.repeated-2.ensures.named (λ l h. record { body = c.in_ok-again.again.0; body_is = named; whole_is = h })
 
 pub turns-returns-clause-lowered : goal.turns-returns-clause-lowered

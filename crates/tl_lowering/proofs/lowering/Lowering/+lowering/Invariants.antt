@@ -3,7 +3,6 @@ use Rattle.std.specs.Prelude.{IfSome}
 use Rattle.tl_lowering.specs.Blocks.{at_start}
 use Rattle.tl_lowering.specs.Entering.{before_of, entered_of, EntersSoFar}
 use Rattle.tl_lowering.specs.Lowering.{IsDraft, behind_draft}
-use Rattle.tl_lowering.specs.Failing.{readers_of}
 use Rattle.tl_lowering.specs.Names.{names_of}
 use Rattle.tl_lowering.specs.Paths.{nodes_of, paths_of}
 use Rattle.tl_lowering.specs.Scopes.{view_of, IsAt, Extends}
@@ -19,7 +18,7 @@ invariant-block-loop-statement l =
     let old = l.initial.self.scope in
     let start = at_start old.values old.nodes (nodes_of l.held) in
     record {
-      named : IsPart l.before (readers_of l.reader) (names_of old) (take l.statement-index l.statements) l.draft (names_of l.self.scope);
+      named : IsPart l.before l.readers (names_of old) (take l.statement-index l.statements) l.draft (names_of l.self.scope);
       entering : EntersSoFar (before_of l.held) l.draft (entered_of l.draft.flow);
       draft : IsDraft start l.draft (view_of l.self.scope);
       flow : paths_of l.draft.flow ≡ behind_draft start l.draft;
@@ -70,3 +69,15 @@ decreases-heard l = 4 * most statement.the_size l.handler.now + 3 + weight l.bef
 
 abbrev pub decreases-tried : goal.decreases-tried
 decreases-tried l = 4 * max (most statement.the_size l.body.now) (most statement.the_size l.handler.now) + 4 + weight l.before.now
+
+abbrev pub decreases-found : goal.decreases-found
+decreases-found l = 4 * most statement.the_size l.block.now + 2 + weight l.before.now
+
+abbrev pub decreases-searched : goal.decreases-searched
+decreases-searched l = 4 * max (most statement.the_size l.search.0.now) (max (most statement.the_size l.search.2.now) (most statement.the_size l.search.3.now)) + 3 + weight l.before.now
+
+abbrev pub decreases-search : goal.decreases-search
+decreases-search l = 4 * max (most statement.the_size l.search.0.now) (max (most statement.the_size l.search.2.now) (most statement.the_size l.search.3.now)) + 4 + weight l.before.now
+
+abbrev pub decreases-choice : goal.decreases-choice
+decreases-choice l = 4 * max (most statement.the_size l.body.now) (most statement.the_size l.otherwise.now) + 3 + weight l.before.now

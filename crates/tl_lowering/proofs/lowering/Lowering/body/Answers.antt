@@ -12,8 +12,10 @@ use Rattle.tl_lowering.proofs.lowering.Lowering.body.Goals as goal
 pub returns-in_default-clause-named : goal.returns-in_default-clause-named
 returns-in_default-clause-named c =
     let b = c.in_ok-lowered.ensures in
+    let block = rw c.nothing-nothing.ensures at b.named in
+    let handled = rw c.nothing-nothing.ensures at c.in_ok-handled.ensures.named in
     ok_both c.completed.result _ _ _ c.completed.ensures.named c.completed.ensures.atomic
-    (λ s w other. plain_body c.args.procedure.now c.in_default.is (ap names_in b.scope) c.deref.ensures.value c.deref-in_default.ensures.value b.named c.in_ok-handled.ensures.named w c.in_ok-check_atomic.ensures other)
+    (λ s w other. plain_body c.args.procedure.now c.in_default.is (ap names_in b.scope) c.deref.ensures.value c.deref-in_default.ensures.value block handled w c.in_ok-check_atomic.ensures other)
 
 pub returns-in_default-clause-sound : goal.returns-in_default-clause-sound
 returns-in_default-clause-sound c =
@@ -31,8 +33,10 @@ returns-in_default-clause-enters c = ok_more c.completed.result _ _ c.completed.
 pub returns-clause-named : goal.returns-clause-named
 returns-clause-named c =
     let told = c.in_ok-register.ensures in
+    let block = rw c.nothing-nothing.ensures at told.named in
+    let heard = rw c.nothing-nothing.ensures at c.in_ok-handled-2.ensures.named in
     ok_both c.completed-2.result _ _ _ c.completed-2.ensures.named c.completed-2.ensures.atomic
-    (λ s w other. told_body c.args.procedure.now c.in-Some.is (ap names_in told.scope) c.deref-2.ensures.value c.deref-3.ensures.value told.fresh told.room told.named c.in_ok-handled-2.ensures.named w c.in_ok-check_atomic-2.ensures other)
+    (λ s w other. told_body c.args.procedure.now c.in-Some.is (ap names_in told.scope) c.deref-2.ensures.value c.deref-3.ensures.value told.fresh told.room block heard w c.in_ok-check_atomic-2.ensures other)
 
 pub returns-clause-sound : goal.returns-clause-sound
 returns-clause-sound c =

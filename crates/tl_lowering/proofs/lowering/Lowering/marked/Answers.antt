@@ -19,7 +19,7 @@ returns-in_default-own_failure-clause-named c =
 
 pub returns-clause-named : goal.returns-clause-named
 returns-clause-named c =
-    let code : Some c.in-Some.register ≡ c.args.reader = sym c.in-Some.is ∙ c.in_ok-register.ensures.same in
+    let code : Some c.in-Some.register ≡ c.args.readers.now.code = sym c.in-Some.is ∙ c.in_ok-register.ensures.same in
     let number : to_z w32 (of_z w32 c.code.result) ≡ c.code.result = search rules in
     ok_more c.then.result _ _ c.then.ensures.named
     (λ s h.

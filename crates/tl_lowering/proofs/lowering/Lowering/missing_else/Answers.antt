@@ -8,7 +8,7 @@ pub returns-in_default-clause-none : goal.returns-in_default-clause-none
 returns-in_default-clause-none c = untold_where_unread _ c.in_default.is
 
 pub returns-in_default-head_failure-clause-none : goal.returns-in_default-head_failure-clause-none
-returns-in_default-head_failure-clause-none c = untold_where_sure c.args.reader (sym c.head_failure.ensures ∙ c.in_default-head_failure.is)
+returns-in_default-head_failure-clause-none c = untold_where_sure c.args.readers.now.code (sym c.head_failure.ensures ∙ c.in_default-head_failure.is)
 
 pub returns-clause-told : goal.returns-clause-told
 returns-clause-told c =
@@ -18,7 +18,7 @@ returns-clause-told c =
       failure = c.in-Some-head_failure.failure;
       told = told_where_read c.in-Some.is is;
       failure_is = is;
-      leaves_code = subst (λ z. IsFailure c.args.reader (E.Constant z) c.in_ok-failure.field-0.0) (number ∙ c.code.ensures) c.in_ok-failure.ensures.named;
+      leaves_code = subst (λ z. IsFailure c.args.readers.now.code (E.Constant z) c.in_ok-failure.field-0.0) (number ∙ c.code.ensures) c.in_ok-failure.ensures.named;
     }
 
 pub returns-clause-refusal : goal.returns-clause-refusal

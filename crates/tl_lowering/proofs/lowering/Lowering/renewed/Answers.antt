@@ -10,11 +10,11 @@ use Rattle.tl_lowering.proofs.PathLemmas.{ok_more}
 use Rattle.tl_lowering.proofs.lowering.Lowering.renewed.Goals as goal
 
 pub returns-in_default-clause-named : goal.returns-in_default-clause-named
-returns-in_default-clause-named c = not_kept c.args.repetition.now c.args.body (sym c.in_ok-register.ensures.same ∙ c.in_default.is)
+returns-in_default-clause-named c = not_kept c.args.readers.now c.args.repetition.now c.args.body (sym c.in_ok-register.ensures.same ∙ c.in_default.is)
 
 pub returns-in-Children-clause-named : goal.returns-in-Children-clause-named
 returns-in-Children-clause-named c =
-    let code : Some c.in-Some.register ≡ c.args.reader = sym c.in-Some.is ∙ c.in_ok-register.ensures.same in
+    let code : Some c.in-Some.register ≡ c.args.readers.now.code = sym c.in-Some.is ∙ c.in_ok-register.ensures.same in
     let number : to_z w32 (of_z w32 c.code.result) ≡ c.code.result = search rules in
     rw c.in-Children.is
     (ok_more c.then.result _ _ c.then.ensures.named

@@ -33,7 +33,13 @@ returns-clause-names c =
     let now9 : c.as_slice-9.result.now ≡ codes "var" = search rules in
     let with9 : spellings c.insert-9.new.self.keys ≡ codes "at" ∷ codes "each" ∷ codes "most" ∷ codes "of" ∷ codes "to" ∷ codes "atomic" ∷ codes "while" ∷ codes "part" ∷ codes "var" ∷ [] =
     inserted_last c.insert-8.new.self.keys c.insert-9.new.self.keys c.as_slice-9.result (codes "var") (codes "at" ∷ codes "each" ∷ codes "most" ∷ codes "of" ∷ codes "to" ∷ codes "atomic" ∷ codes "while" ∷ codes "part" ∷ []) with8 now9 refl c.in_ok-insert-9.ensures.keys in
-    with9
+    let now10 : c.as_slice-10.result.now ≡ codes "with" = search rules in
+    let with10 : spellings c.insert-10.new.self.keys ≡ codes "at" ∷ codes "each" ∷ codes "most" ∷ codes "of" ∷ codes "to" ∷ codes "atomic" ∷ codes "while" ∷ codes "part" ∷ codes "var" ∷ codes "with" ∷ [] =
+    inserted_last c.insert-9.new.self.keys c.insert-10.new.self.keys c.as_slice-10.result (codes "with") (codes "at" ∷ codes "each" ∷ codes "most" ∷ codes "of" ∷ codes "to" ∷ codes "atomic" ∷ codes "while" ∷ codes "part" ∷ codes "var" ∷ []) with9 now10 refl c.in_ok-insert-10.ensures.keys in
+    let now11 : c.as_slice-11.result.now ≡ codes "found" = search rules in
+    let with11 : spellings c.insert-11.new.self.keys ≡ codes "at" ∷ codes "each" ∷ codes "most" ∷ codes "of" ∷ codes "to" ∷ codes "atomic" ∷ codes "while" ∷ codes "part" ∷ codes "var" ∷ codes "with" ∷ codes "found" ∷ [] =
+    inserted_last c.insert-10.new.self.keys c.insert-11.new.self.keys c.as_slice-11.result (codes "found") (codes "at" ∷ codes "each" ∷ codes "most" ∷ codes "of" ∷ codes "to" ∷ codes "atomic" ∷ codes "while" ∷ codes "part" ∷ codes "var" ∷ codes "with" ∷ []) with10 now11 refl c.in_ok-insert-11.ensures.keys in
+    with11
 
 pub returns-clause-distinct : goal.returns-clause-distinct
-returns-clause-distinct c = distinct_spellings c.insert-9.new.self.keys c.in_ok-insert-9.ensures.unique
+returns-clause-distinct c = distinct_spellings c.insert-11.new.self.keys c.in_ok-insert-11.ensures.unique

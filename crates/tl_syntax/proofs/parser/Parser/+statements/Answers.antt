@@ -1,10 +1,10 @@
 use Rattle.std.proofs.Common.{rules, sym, ◌∙◌, arith}
 use Rattle.std.proofs.lemmas.Result.{IfOk-weaker}
 use Rattle.tl_syntax.specs.declared.token.TokenKind.TheVariants as K
-use Rattle.tl_syntax.specs.Statements.{IsBlock, IsOther, block, statement, act, act_else, try, if, if_else, repeat, repeat_at_most, for_each, block_alone, while, other_block}
+use Rattle.tl_syntax.specs.Statements.{IsBlock, IsOther, block, statement, act, act_else, try, if, if_else, loop, search as searched, IsNotFound, otherwise, repeat, repeat_at_most, for_each, block_alone, while, other_block}
 use Rattle.tl_syntax.specs.declared.parsed.Otherwise.{Otherwise, roll-Otherwise, out-roll-Otherwise}
 use Rattle.tl_syntax.proofs.KindLemmas.{same_kind}
-use Rattle.tl_syntax.proofs.StatementLemmas.{no_statements, next_statement, other_only, otherwise_block, otherwise_leaving}
+use Rattle.tl_syntax.proofs.StatementLemmas.{none_found, no_statements, next_statement, other_only, otherwise_block, otherwise_leaving}
 use Rattle.tl_syntax.proofs.parser.Parser.+statements.Goals as goal
 
 pub attempt-returns : goal.attempt-returns
@@ -27,6 +27,22 @@ repetition-returns t c = repeat_at_most c.in_ok-body-2.body c.in_ok-at.ensures c
 
 pub visit-returns : goal.visit-returns
 visit-returns t c = for_each c.in_ok-body.body c.in_ok-at.ensures c.in_ok-at-2.ensures c.in_ok-at-3.ensures c.in_ok-child.ensures c.in_ok-index.ensures c.in_ok-at-4.ensures c.in_ok-parent.ensures c.in_ok-at-5.ensures c.in_ok-at-6.ensures c.in_ok-at_most.ensures c.in_ok-body.ensures
+
+pub search-returns-then-begins_found : goal.search-returns-then-begins_found
+search-returns-then-begins_found t c =
+    searched c.in_ok-turns-2.turns c.in_ok-found.found c.in_ok-otherwise.otherwise c.in_ok-names.names c.in_ok-turns.ensures (rw c.offset-offset.ensures at c.in_ok-turns-2.ensures) c.in_ok-next.ensures c.in_ok-names.ensures
+    c.in_ok-found.ensures c.in_ok-otherwise.ensures
+
+pub search-returns : goal.search-returns
+search-returns t c = loop c.in_ok-turns.ensures (c.begins_found.ensures c.if-begins_found.false)
+
+pub not_found-returns-in_default : goal.not_found-returns-in_default
+not_found-returns-in_default t c = none_found (search rules) (λ e. c.in_default.not-Else (c.kind.ensures ∙ e))
+
+pub not_found-returns-in_ok-next-in-Else : goal.not_found-returns-in_ok-next-in-Else
+not_found-returns-in_ok-next-in-Else t c =
+    IfOk-weaker c.block.result (λ read. IsBlock c.args.self.now.tokens.now c.args.levels c.in_ok-next-in-Else.next read.1 read.0.items) (λ read. IsNotFound c.args.self.now.tokens.now c.args.levels c.args.at read.1 read.0.items)
+    (λ read h. otherwise c.in_ok-next-in-Else.ensures h) c.block.ensures
 
 pub block-loop-init : goal.block-loop-init
 block-loop-init t c = record { room = c.in_ok-inside.ensures; begun = c.in_ok-next.ensures; read = no_statements (search rules) }

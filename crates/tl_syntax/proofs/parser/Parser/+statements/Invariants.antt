@@ -47,3 +47,12 @@ decreases-conditional_loop l = 10 * l.levels + 5
 
 abbrev pub decreases-ended : goal.decreases-ended
 decreases-ended l = 10 * l.levels + 6
+
+abbrev pub decreases-search : goal.decreases-search
+decreases-search l = 10 * l.levels + 7
+
+abbrev pub decreases-not_found : goal.decreases-not_found
+decreases-not_found l = 10 * l.levels + 6
+
+abbrev pub decreases-turns : goal.decreases-turns
+decreases-turns l = 10 * l.levels + 6

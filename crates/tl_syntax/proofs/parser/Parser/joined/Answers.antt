@@ -1,4 +1,3 @@
-use Rattle.std.proofs.Common.{◌≡◌}
 use Rattle.std.proofs.lemmas.Result.{IfOk-weaker}
 use Rattle.tl_syntax.specs.Grammar.{IsMade, IsRest, IsJoined, directly, as_rest}
 use Rattle.tl_syntax.proofs.parser.Parser.joined.Goals as goal

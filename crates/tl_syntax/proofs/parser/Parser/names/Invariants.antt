@@ -1,5 +1,5 @@
 -- The tokens read so far denote the names.
-use Rattle.tl_syntax.specs.Declarations.{AreNames}
+use Rattle.tl_syntax.specs.Statements.{AreNames}
 use Rattle.tl_syntax.proofs.parser.Parser.names.Given as goal
 
 abbrev pub invariant-loop : goal.invariant-loop
