@@ -36,7 +36,12 @@ LAST_WORDS = 60
 # The tools that this machine shall have: what needs one of them fails where it isn't there.
 REQUIRED = set(filter(None, os.environ.get("TREEDB_REQUIRE", "").split(",")))
 # The names under which a tool may be there.
-TOOLS = {"cc": [os.environ.get("CC", "cc")], "chromium": ["chromium", "chromium-browser", "google-chrome"]}
+TOOLS = {
+    "cc": [os.environ.get("CC", "cc")],
+    "chromium": ["chromium", "chromium-browser", "google-chrome"],
+    # Debian has it where no path leads.
+    "postgres": ["postgres", *map(str, sorted(pathlib.Path("/usr/lib/postgresql").glob("*/bin/postgres"), reverse=True))],
+}
 DIES_WITH_ITS_PARENT = 1
 PRCTL = getattr(ctypes.CDLL(None), "prctl", None)
 

@@ -65,7 +65,7 @@ MISTAKES = [
     RUN + ["--trail"], RUN + ["--workers", "2"],
 ] + [RUN[:4] + [workers] + RUN[5:] for workers in ("0", "17", "-1", "two", "", "1.0", "99999999999999999999")] + [
     ["serve"], SERVE[:5], SERVE[:3] + SERVE[5:], SERVE[:1] + SERVE[3:], SERVE + ["more"], SERVE + ["--trail"],
-] + [SERVE[:place] + [number] + SERVE[place + 1:] for place in (4, 6) for number in ("0", "65536", "-1", "one", "", "1.0")] + [
+] + [SERVE[:place] + [number] + SERVE[place + 1:] for place in (4, 6) for number in ("65536", "-1", "one", "", "1.0")] + [SERVE[:6] + ["0"]] + [
     ["explain", *words] for words in ([], ["0"], ["408", "more"], ["100"], ["65535"], ["65536"], ["-1"], ["seven"], [""])
 ]
 

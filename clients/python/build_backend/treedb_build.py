@@ -68,6 +68,8 @@ def _metadata():
              f"License-Expression: {project['license']}", f"Requires-Python: {project['requires-python']}", f"Keywords: {','.join(project['keywords'])}"]
     lines += [f"License-File: {name}" for name in project["license-files"]]
     lines += [f"Classifier: {classifier}" for classifier in project["classifiers"]]
+    for extra, wanted in project["optional-dependencies"].items():
+        lines += [f"Provides-Extra: {extra}", *(f"Requires-Dist: {package}; extra == '{extra}'" for package in wanted)]
     lines += ["Description-Content-Type: text/markdown", "", (HERE / project["readme"]).read_text(encoding="utf-8")]
     return "\n".join(lines)
 

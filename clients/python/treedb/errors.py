@@ -33,8 +33,8 @@ class Refused(Error):
 
 
 class Exhausted(Error):
-    """The last epoch of the server is full: it takes no further call. End it, and start the next one on the tree that it prints. A server without
-    `--connections` goes on by itself."""
+    """The last epoch of the server is full: it takes no further call. End it, and start the next one on the tree that it prints. A server that isn't
+    in session mode goes on by itself."""
 
 
 class Unanswered(Error):

@@ -7,7 +7,7 @@ use crate::help::{
     VOLUME_HELP, WIDEN_HELP,
 };
 use crate::rows::{Reading, Row};
-use crate::serving::{address_rows, connection_rows, epoch_rows, store_rows};
+use crate::serving::{address_rows, connection_rows, epoch_rows, following_rows, store_rows};
 use clap::{Arg, ArgAction, Command, value_parser};
 use std::alloc::{AllocError, Global};
 
@@ -90,6 +90,7 @@ fn read_as<'a>(arg: Arg<'a>, reading: Reading) -> Arg<'a> {
         Reading::Epoch => arg.value_parser(value_parser!(u32)),
         Reading::Epochs => arg.value_parser(value_parser!(u16).range(1..=128)),
         Reading::Workers => arg.value_parser(value_parser!(usize).range(1..=16)),
+        Reading::One => arg.value_parser(value_parser!(u16).range(1..=1)),
     }
 }
 
@@ -279,6 +280,7 @@ fn serve_command<'a>(alloc: Global) -> Result<Command<'a>, AllocError> {
     let command = command_of(alloc, "serve", about, SERVE_HELP, &store_rows())?;
     let command = with_rows(alloc, command, &address_rows())?;
     let command = with_rows(alloc, command, &connection_rows())?;
+    let command = with_rows(alloc, command, &following_rows())?;
     with_rows(alloc, command, &epoch_rows())
 }
 

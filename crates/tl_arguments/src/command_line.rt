@@ -58,6 +58,10 @@ pub struct ServeOptions<'a> {
     pub at_once: u16,
     /// Where it can be asked to stop.
     pub control: Option<Address<'a>>,
+    /// Where followers get what is stored.
+    pub followers: Option<Address<'a>>,
+    /// Whether answers wait until a follower holds what they rest on.
+    pub waits_for_holder: bool,
     /// The permissions that the files of its sockets get.
     pub mode: u32,
     /// After how many seconds a silent connection is ended.
@@ -350,6 +354,8 @@ fn serve_options<'a>(words: &ArgMatches<'a>) -> Option<ServeOptions<'a>> {
         address: address_of(words, "port", "socket")?,
         at_once: words.get_one("at-once").unwrap_or(usual_places(sealing)),
         control: address_of(words, "control", "control-socket"),
+        followers: address_of(words, "follow", "follow-socket"),
+        waits_for_holder: words.contains_id("wait-for"),
         mode: mode_of(words).ok()?.unwrap_or(MODE),
         idle: words.get_one("idle"),
         sealing,
@@ -412,6 +418,27 @@ fn nodes_of(name: &str, words: &ArgMatches<'_>) -> u32 {
     }
 }
 
+// Whether options of a server with a store stand beside one; or why the options don't go together.
+fn check_store_options(words: &ArgMatches<'_>) -> Result<(), &'static str> {
+    let follows = words.contains_id("follow") || words.contains_id("follow-socket");
+    if words.contains_id("wait-for") && !follows {
+        return Err("--wait-for is for a server with followers: --follow or --follow-socket");
+    }
+    if words.contains_id("store") {
+        return Ok(());
+    }
+    if words.contains_id("snapshots") {
+        return Err("--snapshots is for a store: --store");
+    }
+    if words.contains_id("volume") || words.contains_id("keys") {
+        return Err("--volume and --keys are for a store in a folder: --store FOLDER/");
+    }
+    if follows {
+        return Err("--follow and --follow-socket are for a store: --store");
+    }
+    Ok(())
+}
+
 // What the command line asks for. `None` if memory is refused, since each command has an arm.
 fn asked_of<'a>(alloc: Global, matches: &ArgMatches<'a>) -> Option<Asked<'a>> {
     let (name, words) = matches.subcommand()?;
@@ -427,15 +454,8 @@ fn asked_of<'a>(alloc: Global, matches: &ArgMatches<'a>) -> Option<Asked<'a>> {
         if let Err(reason) = mode_of(words) {
             return Some(Asked::Mistaken(reason));
         }
-        if words.contains_id("snapshots") && !words.contains_id("store") {
-            return Some(Asked::Mistaken("--snapshots is for a store: --store"));
-        }
-        if (words.contains_id("volume") || words.contains_id("keys"))
-            && !words.contains_id("store")
-        {
-            return Some(Asked::Mistaken(
-                "--volume and --keys are for a store in a folder: --store FOLDER/",
-            ));
+        if let Err(reason) = check_store_options(words) {
+            return Some(Asked::Mistaken(reason));
         }
     }
     Some(Asked::Request {

@@ -26,6 +26,8 @@ pub(crate) enum Reading {
     Epochs,
     /// 1 to 16.
     Workers,
+    /// 1.
+    One,
 }
 
 /// An option, or a file that is named without one.

@@ -44,7 +44,9 @@ pub(crate) fn store_rows() -> [Row; 7] {
 /// Where a server listens.
 pub(crate) fn address_rows() -> [Row; 3] {
     [
-        port("The port of this machine, 1 to 65535"),
+        port(
+            "The port of this machine, 1 to 65535, or 0 for one that the system chooses; standard error says which",
+        ).as_a(Reading::Number),
         socket("The file of a Unix socket in the place of the port"),
         Row::option(
             "mode",
@@ -73,9 +75,9 @@ pub(crate) fn connection_rows() -> [Row; 5] {
         Row::option(
             "control",
             "P",
-            "A second port of this machine, on which `treedb stop` asks the server to end",
+            "A second port of this machine, on which `treedb stop` asks the server to end; or 0, as with --port",
         )
-        .as_a(Reading::Positive)
+        .as_a(Reading::Number)
         .required_unless([Some("connections"), Some("control-socket"), Some("store")])
         .excluding("control-socket"),
         Row::option(
@@ -89,6 +91,30 @@ pub(crate) fn connection_rows() -> [Row; 5] {
             "After how many seconds a connection is ended that sends nothing or takes no answer",
         )
         .as_a(Reading::Positive),
+    ]
+}
+
+/// Who follows what is stored.
+pub(crate) fn following_rows() -> [Row; 3] {
+    [
+        Row::option(
+            "follow",
+            "P",
+            "A third port of this machine, at which followers, as `treedb-mirror`, get what is stored; or 0, as with --port",
+        )
+        .as_a(Reading::Number)
+        .excluding("follow-socket"),
+        Row::option(
+            "follow-socket",
+            "PATH",
+            "The file of a Unix socket in the place of that port",
+        ),
+        Row::option(
+            "wait-for",
+            "1",
+            "Answers wait until a follower holds for good what they rest on",
+        )
+        .as_a(Reading::One),
     ]
 }
 

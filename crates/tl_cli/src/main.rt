@@ -35,7 +35,7 @@ use tl_file_export::{Epochs, open_epochs};
 use tl_file_journal::{End, StoreOptions, StoreRefusal, Stored, open_stored};
 use tl_generations::Succession;
 pub use tl_language_commands::{LanguageFault, check_procs_cmd, compile_cmd, procs_cmd};
-use tl_server::{Journal, Keeper, Texts};
+use tl_server::{Keeper, Storage, Texts};
 use tl_store_file::FileFault;
 use tl_tree::Tree;
 
@@ -93,7 +93,7 @@ where
         + Sync,
     K: Keeper + Texts + Finish + Send + Drop,
     F: FnOnce(Trails, Succession, u32) -> K + Drop,
-    J: Journal + End + Sync + Drop,
+    J: Storage + End + Sync + Drop,
     O: FnOnce(StoreOptions<'_>, Option<Tree>) -> Result<Stored<J>, StoreRefusal> + Drop,
     E: Epochs + Drop,
     X: Fn(&str) -> Result<E, FileFault> + Drop,

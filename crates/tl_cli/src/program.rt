@@ -32,7 +32,7 @@ use tl_arguments::{CallCommand, FileCommand, Outputs, Request, ScriptFiles};
 use tl_file_export::Epochs;
 use tl_file_journal::{End, StoreOptions, StoreRefusal, Stored};
 use tl_generations::Succession;
-use tl_server::{Journal, Keeper, Texts};
+use tl_server::{Keeper, Storage, Texts};
 use tl_sources::{Given, Source};
 use tl_store_file::FileFault;
 use tl_syntax::Position;
@@ -423,7 +423,7 @@ where
     where
         K: Keeper + Texts + Finish + Send + Drop,
         F: FnOnce(Trails, Succession, u32) -> K + Drop,
-        J: Journal + End + Sync + Drop,
+        J: Storage + End + Sync + Drop,
         O: FnOnce(StoreOptions<'_>, Option<Tree>) -> Result<Stored<J>, StoreRefusal> + Drop,
         E: Epochs + Drop,
         X: Fn(&str) -> Result<E, FileFault> + Drop,
@@ -481,7 +481,7 @@ where
     where
         K: Keeper + Texts + Finish + Send + Drop,
         F: FnOnce(Trails, Succession, u32) -> K + Drop,
-        J: Journal + End + Sync + Drop,
+        J: Storage + End + Sync + Drop,
         O: FnOnce(StoreOptions<'_>, Option<Tree>) -> Result<Stored<J>, StoreRefusal> + Drop,
         E: Epochs + Drop,
         X: Fn(&str) -> Result<E, FileFault> + Drop,

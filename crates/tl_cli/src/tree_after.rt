@@ -1,6 +1,6 @@
 // The tree as it was after an epoch of a store.
 
-ghost use Rattle.std.specs.Prelude.{◌≡◌, ◌++◌, ◌∷◌, ◌+◌, [], List, None, length, OnOk, IfOk};
+ghost use Rattle.std.specs.Prelude.{◌≡◌, ◌++◌, ◌∷◌, ◌+◌, ◌&&◌, [], List, None, nat_le, if◌then◌else◌, length, OnOk, IfOk};
 ghost use Rattle.tl_cli.specs.Epochs.{IsAfter};
 ghost use Rattle.tl_trail.specs.Trails.{TrailValue};
 
@@ -46,8 +46,10 @@ impl TreeAfter {
     }
 
     /// The tree, if there is that epoch. The trail that came last is that of the epoch which isn't sealed; of a closed volume it is none of its epochs.
-    pub fn into_tree(self, is_closed: bool) -> Option<Tree> {
-        if is_closed && self.epoch.saturating_add(1) >= self.seen {
+    pub fn into_tree(self, is_closed: bool) -> Option<Tree>
+        ensures { result ≡ (if is_closed && nat_le self.seen (self.epoch + 1) then None else self.tree) }
+    {
+        if is_closed && self.seen.saturating_sub(1) <= self.epoch {
             return None;
         }
         self.tree

@@ -1,2 +1,4 @@
 pub mod Copying
 pub mod Refusals
+pub mod Following
+pub mod Beginning

@@ -168,7 +168,7 @@ impl Comparer {
         alloc: Global,
         chain: &[Closed],
     ) -> Result<(), Difference> {
-        if self.shared.ledger.settle(rt, alloc).is_err() {
+        if self.shared.ledger.store_all(rt, alloc).is_err() {
             // The journal says why, and stores nothing more.
             return Ok(());
         }

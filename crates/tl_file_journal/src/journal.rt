@@ -4,19 +4,26 @@ ghost use Rattle.std.specs.Prelude.{◌≡◌, false};
 ghost use Rattle.tl_file_journal.specs.Copying.{refusal_of};
 
 use crate::comparing::{Closing, Comparer, Shared};
-use crate::volumes::{begin_next, copy_closed};
+use crate::following::closed_behind;
+use crate::volumes::{Unbegun, begin_next, copy_closed};
 use sqlite_std_file::File;
 use sqlite_store::FileStore;
+use sqlite_trees::error::StoreError;
 use sqlite_trees::store::Store;
 use std::alloc::Global;
 use std::mem;
 use std::sync::{Arc, Mutex, Wait};
+use std::time::Clock;
 use tl_file_snapshot::{SnapshotFault, check_name, write_snapshot};
+use tl_follow::line_of;
 use tl_generations::Legacy;
-use tl_journal::{JournalParts, LedgerJournal};
+use tl_journal::{JournalParts, LedgerJournal, marks_at};
 use tl_ledger::Ledger;
 use tl_procedures::Procedures;
-use tl_server::{Claim, CopyRefusal, Journal, NoJournal, Unstored, VolumeRefusal};
+use tl_server::{
+    Claim, CopyRefusal, Follow, FollowRefusal, Journal, NoJournal, Position, Storage, TABLES,
+    Unstored, VolumeRefusal,
+};
 use tl_store::StoreFault;
 use tl_store_commands::end_store;
 use tl_volume_files::Volumes;
@@ -70,6 +77,9 @@ fn refusal_of(fault: SnapshotFault) -> CopyRefusal
 
 /// A journal that can be ended.
 pub trait End {
+    /// Lets answers wait until a follower holds what they rest on.
+    fn wait_for_holder(&self, rt: &impl Wait);
+
     /// Who compares what is stored with what is run from now on. `None` if nothing is stored.
     fn comparer(&self, rt: &impl Wait) -> Option<Comparer>;
 
@@ -79,6 +89,8 @@ pub trait End {
 }
 
 impl End for NoJournal {
+    fn wait_for_holder(&self, _rt: &impl Wait) {}
+
     fn comparer(&self, _rt: &impl Wait) -> Option<Comparer> {
         None
     }
@@ -137,6 +149,12 @@ impl Journal for FileJournal {
         self.shared.ledger.settle(rt, alloc)
     }
 
+    fn end_waits(&self, rt: &impl Wait) {
+        self.shared.ledger.end_waits(rt);
+    }
+}
+
+impl Storage for FileJournal {
     fn volume(&self, rt: &impl Wait) -> Option<u64> {
         if self.turning.is_none() {
             return None;
@@ -160,7 +178,7 @@ impl Journal for FileJournal {
         let Some(turning) = &self.turning else {
             return Err(VolumeRefusal::NoVolumes);
         };
-        if self.settle(rt, alloc).is_err() {
+        if self.shared.ledger.store_all(rt, alloc).is_err() {
             return Err(VolumeRefusal::Broken);
         }
         let mut live = self.live.lock(rt);
@@ -210,9 +228,55 @@ impl Journal for FileJournal {
         self.shared.ledger.give_back(rt, ledger);
         written.map_err(refusal_of)
     }
+
+    fn answer_follower<R: Wait + Clock>(
+        &self,
+        rt: &R,
+        alloc: Global,
+        follow: &Follow,
+    ) -> Result<String, FollowRefusal> {
+        let from = match follow.from {
+            Some(from) => from,
+            None => Position {
+                volume: self.first_volume(rt)?,
+                rows: [0; TABLES],
+            },
+        };
+        let (volume, place) = (from.volume, marks_at(&from.rows));
+        if follow.holds {
+            self.shared.ledger.hold(rt, volume, place);
+        }
+        let ledger = &self.shared.ledger;
+        let found = ledger.look_behind(rt, alloc, volume, &place, follow.records, follow.wait)?;
+        let (volume, found) = match (found, &self.turning) {
+            (Some(found), _) => (volume, found),
+            (None, Some(turning)) => {
+                closed_behind(
+                    &self.files,
+                    &turning.volumes,
+                    volume,
+                    &place,
+                    follow.records,
+                )?
+            }
+            (None, None) => return Err(FollowRefusal::NotThere),
+        };
+        Ok(line_of(alloc, volume, &found)?)
+    }
 }
 
 impl FileJournal {
+    // The number of the first volume that there is.
+    fn first_volume(&self, rt: &impl Wait) -> Result<u64, FollowRefusal> {
+        let Some(turning) = &self.turning else {
+            return Ok(0);
+        };
+        match turning.volumes.numbers() {
+            Ok(numbers) => Ok(numbers.first().copied().unwrap_or(0)),
+            Err(_) => Err(FollowRefusal::Broken),
+        }
+    }
+
     // Goes on in the volume after the live one, once all that came is stored. The number of the live volume.
     fn turn(
         &self,
@@ -238,12 +302,16 @@ impl FileJournal {
         let (tree, procedures) = (left.tree(), left.procedures());
         match begin_next(files, volumes, &mut last, path, number, tree, procedures) {
             Ok((path, next)) => self.go_on(rt, live, last, path, number, next),
-            Err(refusal) => {
+            Err(Unbegun::Refused(refusal)) => {
                 if refusal == VolumeRefusal::OtherLeft {
                     self.shared.differ(rt, StoreFault::Other);
                 }
                 self.shared.ledger.give_back(rt, last);
                 Err(refusal)
+            }
+            Err(Unbegun::Left(fault)) => {
+                self.shared.ledger.give_up(rt, last, fault);
+                Err(VolumeRefusal::Broken)
             }
         }
     }
@@ -262,9 +330,7 @@ impl FileJournal {
     {
         if self.shared.ledger.turn_over(rt, next).is_err() {
             // A start would take up the next one, so nothing more may be stored in the last.
-            let mut last = last;
-            last.is_shut = true;
-            self.shared.ledger.give_back(rt, last);
+            self.shared.ledger.give_up(rt, last, StoreError::Broken);
             return Err(VolumeRefusal::Broken);
         }
         self.shared.close(rt, Closing::new(live.number, last));
@@ -276,6 +342,10 @@ impl FileJournal {
 }
 
 impl End for FileJournal {
+    fn wait_for_holder(&self, rt: &impl Wait) {
+        self.shared.ledger.wait_for_holder(rt);
+    }
+
     fn comparer(&self, rt: &impl Wait) -> Option<Comparer> {
         let volumes = match &self.turning {
             Some(turning) => Some(Arc::try_clone(&turning.volumes).ok()?),
@@ -309,7 +379,7 @@ fn end_ledger(
     journal: LedgerJournal<FileStore<File>>,
     left: Option<&Legacy>,
 ) -> Result<(), StoreFault> {
-    let settled = journal.settle(rt, alloc);
+    let settled = journal.store_all(rt, alloc);
     let JournalParts {
         ledger,
         fault,

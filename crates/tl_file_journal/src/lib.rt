@@ -2,6 +2,7 @@
 #![tactic(auto)]
 
 mod comparing;
+mod following;
 mod journal;
 mod opening;
 mod refusal;

@@ -1,17 +1,24 @@
 // A store in volumes: which one is live, and how the next one is begun.
 
-ghost use Rattle.std.specs.Prelude.{◌≡◌, ◌≢◌, false, Err, IfOk};
+ghost use Rattle.std.specs.Prelude.{◌≡◌, ◌≢◌, ◌⊎◌, true, false, Err, IfOk, OnOk};
+ghost use Rattle.tl_file_journal.specs.Beginning.{added, carry_refusal, refusal_after};
 ghost use Rattle.tl_file_journal.specs.declared.refusal.StoreRefusal.TheVariants.{NoTree, HasTree};
 ghost use Rattle.sqlite_store.specs.FileStore.{view};
 ghost use Rattle.sqlite_trees.specs.View.{IsClean};
-ghost use Rattle.tl_ledger.specs.Contents.{AreTables, Holds, IsAtRest, no_contents};
+ghost use Rattle.tl_file_snapshot.specs.Names.{is_snapshot_name};
+ghost use Rattle.tl_file_snapshot.specs.declared.fault.SnapshotFault.TheVariants.{BadName};
+ghost use Rattle.tl_ledger.specs.Contents.{AreTables, Contents, Holds, IsAtRest, no_contents};
+ghost use Rattle.tl_ledger.specs.News.{after_founding, IsMarked};
+ghost use Rattle.tl_ledger.specs.declared.founding.Founding.{Founding};
 ghost use Rattle.tl_store_file.specs.declared.opening.Found.TheVariants.{Store as There};
+ghost use Rattle.tl_volumes.specs.Volumes.{Carries};
 
 use crate::opening::is_unfounded;
 use crate::refusal::StoreRefusal;
 use sqlite_disk::Disk;
 use sqlite_std_file::File;
 use sqlite_store::FileStore;
+use sqlite_trees::error::StoreError;
 use sqlite_trees::store::Store;
 use sqlite_value::row::Row;
 use std::alloc::Global;
@@ -48,6 +55,7 @@ fn unread(error: io::Error) -> StoreRefusal
             StoreRefusal::File(FileFault::Unopened(Hindrance::Permission))
         }
         io::ErrorKind::NotFound => StoreRefusal::File(FileFault::Unopened(Hindrance::NoFolder)),
+        io::ErrorKind::StorageFull => StoreRefusal::File(FileFault::DiskFull),
         _ => StoreRefusal::File(FileFault::Unopened(Hindrance::Other)),
     }
 }
@@ -190,8 +198,8 @@ fn count_calls<D: Disk + Drop>(
     }
 }
 
-// A closed volume, into which nothing is written, and how many calls it has.
-fn open_closed(
+/// A closed volume, into which nothing is written, and how many calls it has.
+pub(crate) fn open_closed(
     rt: &HostRuntime,
     volumes: &Volumes,
     number: u64,
@@ -284,6 +292,16 @@ pub(crate) fn say_unlisted(rt: &HostRuntime, number: u64, error: &io::Error) {
     let _shown = eprintln!(rt; "treedb: volume {number} is closed, and not in SHA256SUMS: {error}");
 }
 
+// A store without rows in the file of that path, which wasn't there, with that mode.
+fn make_at(rt: &HostRuntime, path: &str, mode: u32) -> Result<Rested<File>, FileFault>
+    ensures { IfOk result (λ made. IsClean (view made.store) → Holds (view made.store).committed no_contents) }
+{
+    match open_with_mode(rt, path, mode)? {
+        Found::Blank(blank) => blank.make(),
+        Found::Store(_) => Err(FileFault::NotStore),
+    }
+}
+
 // A store without rows for the next volume, whose file gets the mode that the live one has, unless another one is named.
 fn blank_for(
     rt: &HostRuntime,
@@ -291,35 +309,40 @@ fn blank_for(
     live: &str,
     path: &str,
 ) -> Result<FileStore<File>, VolumeRefusal>
-    ensures { IfOk result (λ store. IsClean (view store) → IsAtRest (view store)) }
+    ensures rest { IfOk result (λ store. IsClean (view store) → IsAtRest (view store)) }
+    ensures empty { IfOk result (λ store. IsClean (view store) → Holds (view store).committed no_contents) }
 {
     let Ok(mode) = volumes.next_mode(live) else {
         return Err(VolumeRefusal::Unwritten);
     };
-    let made = match open_with_mode(rt, path, mode) {
-        Ok(Found::Blank(blank)) => blank.make(),
-        // There was no such file.
-        Ok(Found::Store(_)) => return Err(VolumeRefusal::Unwritten),
-        Err(fault) => Err(fault),
-    };
-    match made {
+    match make_at(rt, path, mode) {
         Ok(Rested { store }) => Ok(store),
         Err(FileFault::Memory) => Err(VolumeRefusal::Memory),
         Err(_) => Err(VolumeRefusal::Unwritten),
     }
 }
 
+/// Why a store goes on in no next volume.
+#[derive(Clone, Copy, Debug, PartialEq, Eq)]
+pub(crate) enum Unbegun {
+    /// There is no file of the next volume, or one of somebody else. The store goes on in the last one, unless that is shut.
+    Refused(VolumeRefusal),
+    /// What there is of the next volume can't be removed, for that reason. A start might go on in it, so nothing more may be stored in the last one.
+    Left(StoreError),
+}
+
 // Why a server doesn't begin that can't go on in a new volume.
-fn unbegun(refusal: VolumeRefusal) -> StoreRefusal
-    ensures { (result ≢ NoTree) × (result ≢ HasTree) }
+fn refusal_after(unbegun: Unbegun) -> StoreRefusal
+    ensures { result ≡ refusal_after unbegun }
 {
-    match refusal {
-        VolumeRefusal::Memory => StoreRefusal::Store(StoreFault::Memory),
-        VolumeRefusal::OtherLeft => StoreRefusal::Store(StoreFault::Other),
-        VolumeRefusal::Broken => StoreRefusal::Store(StoreFault::DiskFailed),
-        VolumeRefusal::Unwritten | VolumeRefusal::NoVolumes => {
+    match unbegun {
+        Unbegun::Refused(VolumeRefusal::Memory) => StoreRefusal::Store(StoreFault::Memory),
+        Unbegun::Refused(VolumeRefusal::OtherLeft) => StoreRefusal::Store(StoreFault::Other),
+        Unbegun::Refused(VolumeRefusal::Broken) => StoreRefusal::Store(StoreFault::DiskFailed),
+        Unbegun::Refused(VolumeRefusal::Unwritten | VolumeRefusal::NoVolumes) => {
             StoreRefusal::File(FileFault::Unopened(Hindrance::Other))
         }
+        Unbegun::Left(name) => StoreRefusal::Store(StoreFault::of_disk(name)),
     }
 }
 
@@ -332,7 +355,8 @@ pub(crate) fn leave_closed(
     path: String,
     number: u64,
 ) -> Result<(Beginning<FileStore<File>>, String, u64), StoreRefusal>
-    ensures { (result ≢ Err NoTree) × (result ≢ Err HasTree) }
+    ensures err { (result ≢ Err NoTree) × (result ≢ Err HasTree) }
+    ensures begun { IfOk result (λ r. (r ≡ (begun, path, number)) ⊎ ((r.0.core ≡ begun.core) × (r.2 ≡ added number begun.ledger.marks.seals))) }
 {
     if !volumes.is_listed(number).map_err(unread)? {
         return Ok((begun, path, number));
@@ -357,7 +381,7 @@ pub(crate) fn leave_closed(
             let _removed = volumes.close(number);
             Ok((Beginning { ledger, core }, path, next))
         }
-        Err(refusal) => Err(unbegun(refusal)),
+        Err(unbegun) => Err(refusal_after(unbegun)),
     }
 }
 
@@ -369,7 +393,10 @@ pub(crate) fn copy_closed(
     number: u64,
     folder: &str,
     name: &str,
-) -> Result<(), SnapshotFault> {
+) -> Result<(), SnapshotFault>
+    ensures named { OnOk result (is_snapshot_name name.now ≡ true) }
+    ensures bad_name { is_snapshot_name name.now ≡ false → result ≡ Err BadName }
+{
     write_copy(rt, folder, name, |part| {
         match volumes.copy_closed(number, part) {
             Ok(true) => Ok(()),
@@ -381,7 +408,9 @@ pub(crate) fn copy_closed(
 }
 
 // Why there is no next volume, as the server says it.
-fn refusal_of(fault: CarryFault) -> VolumeRefusal {
+fn refusal_of(fault: CarryFault) -> VolumeRefusal
+    ensures { result ≡ carry_refusal fault }
+{
     match fault {
         CarryFault::Last(StoreFault::Other) => VolumeRefusal::OtherLeft,
         CarryFault::Last(_) => VolumeRefusal::Broken,
@@ -390,24 +419,19 @@ fn refusal_of(fault: CarryFault) -> VolumeRefusal {
     }
 }
 
-// Removes what there is of a next volume that wasn't begun. Where that fails a start might go on in it, so nothing more may be stored in the last one.
-fn give_up(
-    volumes: &Volumes,
-    last: &mut Ledger<FileStore<File>>,
-    number: u64,
-    refusal: VolumeRefusal,
-) -> VolumeRefusal {
+// Removes what there is of a next volume that wasn't begun, for that reason.
+fn give_up(volumes: &Volumes, number: u64, refusal: VolumeRefusal) -> Unbegun {
     match volumes.remove(number) {
-        Ok(()) => refusal,
-        Err(_) => {
-            last.is_shut = true;
-            VolumeRefusal::Broken
-        }
+        Ok(()) => Unbegun::Refused(refusal),
+        Err(error) => Unbegun::Left(match error.kind() {
+            io::ErrorKind::OutOfMemory => StoreError::OutOfMemory,
+            io::ErrorKind::StorageFull => StoreError::Full,
+            _ => StoreError::Io,
+        }),
     }
 }
 
-/// Begins the next volume, of that number, with what the last one left, this tree and these procedures; the last one's file is at that path. Where it isn't begun no file is left of it, or nothing
-/// more is stored in the last one.
+/// Begins the next volume, of that number, with what the last one left, this tree and these procedures; the last one's file is at that path.
 pub(crate) fn begin_next(
     rt: &HostRuntime,
     volumes: &Volumes,
@@ -416,21 +440,27 @@ pub(crate) fn begin_next(
     number: u64,
     tree: &Tree,
     procedures: &Procedures,
-) -> Result<(String, Ledger<FileStore<File>>), VolumeRefusal>
+) -> Result<(String, Ledger<FileStore<File>>), Unbegun>
     requires { last.old.is_shut ≡ false }
-    ensures { IfOk result (λ next. next.1.is_shut ≡ false) }
+    ensures open { IfOk result (λ next. next.1.is_shut ≡ false) }
+    ensures carried { IfOk result (λ next. IsClean (view last.new.store) → IsClean (view next.1.store) → (c : Contents)
+        → Holds (view last.old.store).committed c
+        → (first : Founding) × Carries c first × IsMarked (after_founding no_contents first) next.1.marks
+        × Holds (view next.1.store).committed (after_founding no_contents first)) }
+    ensures stored { OnOk result (IsClean (view last.new.store) → (view last.new.store).committed ≡ (view last.old.store).committed) }
+    ensures marks { last.new.marks ≡ last.old.marks }
 {
     let alloc = rt.alloc();
     let Ok(path) = volumes.path_of(number) else {
-        return Err(VolumeRefusal::Memory);
+        return Err(Unbegun::Refused(VolumeRefusal::Memory));
     };
     // A file that somebody else has put there stays.
     if !matches!(volumes.is_there(number), Ok(false)) {
-        return Err(VolumeRefusal::Unwritten);
+        return Err(Unbegun::Refused(VolumeRefusal::Unwritten));
     }
     let mut next = match blank_for(rt, volumes, live, path.as_str()) {
         Ok(next) => next,
-        Err(refusal) => return Err(give_up(volumes, last, number, refusal)),
+        Err(refusal) => return Err(give_up(volumes, number, refusal)),
     };
     let refusal = match carry_over(alloc, last, &mut next, tree, procedures) {
         // Another server's start may have removed the file before it was locked.
@@ -441,5 +471,5 @@ pub(crate) fn begin_next(
         Err(fault) => refusal_of(fault),
     };
     drop(next);
-    Err(give_up(volumes, last, number, refusal))
+    Err(give_up(volumes, number, refusal))
 }

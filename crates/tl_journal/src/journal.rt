@@ -1,6 +1,9 @@
 // Who stores what engines do: leader and followers.
 
-ghost use Rattle.std.specs.Prelude.{◌≡◌, ◌≢◌, false, IfSome, IfErr};
+ghost use Rattle.std.specs.Prelude.{◌≡◌, ◌≢◌, false, IfSome, IfOk, IfErr};
+ghost use Rattle.tl_follow.specs.Positions.{IsUpTo};
+ghost use Rattle.tl_journal.specs.Following.{refusal_of, counts};
+ghost use Rattle.tl_ledger.specs.declared.committing.Marks.{Marks as Rows};
 ghost use Rattle.tl_server.specs.declared.journal.Claim.TheVariants.{NoStore};
 
 use crate::desk::{Desk, Extent};
@@ -8,13 +11,14 @@ use sqlite_trees::error::StoreError;
 use sqlite_trees::store::Store;
 use std::alloc::Global;
 use std::sync::{Condvar, Mutex, Wait};
-use tl_generations::Legacy;
+use std::time::{Clock, Duration};
+use tl_follow::{FollowFault, Found, follow_ledger};
 use tl_keys::KeyIndex;
-use tl_ledger::{Ledger, News};
+use tl_ledger::{Ledger, Marks, News, ReadFault};
 use tl_news::news_since;
 use tl_pending::Pending;
 use tl_procedures::Procedures;
-use tl_server::{Claim, CopyRefusal, Journal, Unstored, VolumeRefusal};
+use tl_server::{Claim, FollowRefusal, Journal, TABLES, Unstored};
 use tl_tree::Record;
 use tl_workers::Engine;
 
@@ -125,8 +129,124 @@ impl<S: Store + Drop> LedgerJournal<S> {
 
     /// Puts the ledger back. If it is shut, nothing more is stored.
     pub fn give_back(&self, rt: &impl Wait, ledger: Ledger<S>) {
-        self.desk.lock(rt).put(ledger, None);
+        self.put(rt, ledger, None);
+    }
+
+    /// Puts the ledger back for good: nothing more is stored, for that reason.
+    pub fn give_up(&self, rt: &impl Wait, ledger: Ledger<S>, fault: StoreError) {
+        self.put(rt, ledger, Some(fault));
+    }
+
+    // Puts the ledger back, and wakes those that wait for it.
+    fn put(&self, rt: &impl Wait, ledger: Ledger<S>, failure: Option<StoreError>) {
+        self.desk.lock(rt).put(ledger, failure);
         self.moved.notify_all();
+    }
+
+    /// Waits until all that came up to now is stored, and for no follower.
+    pub fn store_all(&self, rt: &impl Wait, alloc: Global) -> Result<(), Unstored> {
+        match self.wanted(rt) {
+            Some(wanted) => self.await_stored(rt, alloc, &wanted),
+            None => Err(Unstored),
+        }
+    }
+
+    // Waits until so much is stored.
+    fn await_stored(&self, rt: &impl Wait, alloc: Global, wanted: &Extent) -> Result<(), Unstored> {
+        let mut desk = self.desk.lock(rt);
+        for _ in rt.forever() {
+            if desk.has_stored(wanted) {
+                return Ok(());
+            }
+            if desk.fault().is_some() {
+                return Err(Unstored);
+            }
+            let Some(ledger) = desk.take() else {
+                desk = self.moved.wait(rt, desk);
+                continue;
+            };
+            drop(desk);
+            return self.lead(rt, alloc, ledger, wanted);
+        }
+        unreachable!()
+    }
+
+    // Waits until a follower holds so much, if answers wait for one.
+    fn await_held(&self, rt: &impl Wait, wanted: &Extent) -> Result<(), Unstored> {
+        let mut desk = self.desk.lock(rt);
+        for _ in rt.forever() {
+            if desk.is_held(wanted) {
+                return Ok(());
+            }
+            if desk.is_ending() {
+                return Err(Unstored);
+            }
+            desk = self.moved.wait(rt, desk);
+        }
+        unreachable!()
+    }
+
+    /// Lets answers wait until a follower holds what they rest on.
+    pub fn wait_for_holder(&self, rt: &impl Wait) {
+        self.desk.lock(rt).wait_for_holder();
+    }
+
+    /// A follower holds all before a place in the volume that has so many epochs before it.
+    pub fn hold(&self, rt: &impl Wait, before: u64, rows: Marks) {
+        self.desk.lock(rt).hold(&Extent { before, rows });
+        self.moved.notify_all();
+    }
+
+    /// What is stored behind a place in the volume that has so many epochs before it, where the follower has the records after so many seals. Where nothing
+    /// is behind it that is waited for, for so many milliseconds at most. `None` if that volume isn't the live one.
+    pub fn look_behind<R: Wait + Clock>(
+        &self,
+        rt: &R,
+        alloc: Global,
+        before: u64,
+        from: &Marks,
+        records: Option<u64>,
+        wait: u64,
+    ) -> Result<Option<Found>, FollowRefusal>
+        ensures { IfOk result (λ found. IfSome found (λ f. (stored : Rows) × IsUpTo from.now f.rows.to × IsUpTo f.rows.to stored)) }
+    {
+        let place = Extent {
+            before,
+            rows: *from,
+        };
+        self.await_more(rt, &place, wait);
+        let Some(mut ledger) = self.borrow(rt) else {
+            return Err(FollowRefusal::Broken);
+        };
+        // The ledger stays the live volume's while it is borrowed.
+        let found = if self.desk.lock(rt).is_of(before) {
+            Some(follow_ledger(alloc, &mut ledger, from, records))
+        } else {
+            None
+        };
+        self.give_back(rt, ledger);
+        match found {
+            Some(Ok(found)) => Ok(Some(found)),
+            Some(Err(fault)) => Err(follow_refusal_of(fault)),
+            None => Ok(None),
+        }
+    }
+
+    // Waits until something is stored behind a place, but not for longer than that.
+    fn await_more<R: Wait + Clock>(&self, rt: &R, place: &Extent, wait: u64) {
+        let mut desk = self.desk.lock(rt);
+        for _ in 0..MAX_WAKES {
+            if wait == 0 || !desk.has_only(place) || desk.fault().is_some() {
+                return;
+            }
+            let (now, waited) = self
+                .moved
+                .wait_timeout(rt, desk, Duration::from_millis(wait));
+            desk = now;
+            if waited.timed_out() {
+                return;
+            }
+        }
     }
 
     /// How many calls the live volume has once all that came is stored.
@@ -197,6 +317,36 @@ impl<S: Store + Drop> LedgerJournal<S> {
         } else {
             Err(Unstored)
         }
+    }
+}
+
+// How often a follower may be woken before it has an answer.
+const MAX_WAKES: u32 = 1_000;
+
+/// The place in its volume that a position names.
+pub fn marks_at(rows: &[u64; TABLES]) -> Marks
+    ensures { counts result ≡ rows.now }
+{
+    let [nodes, procedures, calls, turns, replies, seals] = *rows;
+    Marks {
+        nodes,
+        procedures,
+        calls,
+        turns,
+        replies,
+        seals,
+    }
+}
+
+/// Why a follower gets nothing, as the server says it.
+pub fn follow_refusal_of(fault: FollowFault) -> FollowRefusal
+    ensures { result ≡ refusal_of fault }
+{
+    match fault {
+        FollowFault::NotThere => FollowRefusal::NotThere,
+        FollowFault::Unread(ReadFault::NotRows { table }) => FollowRefusal::BadRow { table },
+        FollowFault::Unread(ReadFault::Store(StoreError::OutOfMemory)) => FollowRefusal::Memory,
+        FollowFault::Unread(ReadFault::Store(_)) => FollowRefusal::Broken,
     }
 }
 
@@ -299,54 +449,12 @@ impl<S: Store + Drop> Journal for LedgerJournal<S> {
         let Some(wanted) = self.wanted(rt) else {
             return Err(Unstored);
         };
-        let mut desk = self.desk.lock(rt);
-        for _ in rt.forever() {
-            if desk.has_stored(&wanted) {
-                return Ok(());
-            }
-            if desk.fault().is_some() {
-                return Err(Unstored);
-            }
-            let Some(ledger) = desk.take() else {
-                desk = self.moved.wait(rt, desk);
-                continue;
-            };
-            drop(desk);
-            return self.lead(rt, alloc, ledger, &wanted);
-        }
-        unreachable!()
+        self.await_stored(rt, alloc, &wanted)?;
+        self.await_held(rt, &wanted)
     }
 
-    // Who knows the files begins volumes.
-    fn volume(&self, _rt: &impl Wait) -> Option<u64> {
-        None
-    }
-
-    fn is_full(&self, _rt: &impl Wait) -> bool {
-        false
-    }
-
-    fn carry_over(
-        &self,
-        _rt: &impl Wait,
-        _alloc: Global,
-        _left: &Legacy,
-    ) -> Result<u64, VolumeRefusal> {
-        Err(VolumeRefusal::NoVolumes)
-    }
-
-    // Who knows the file copies it.
-    fn may_copy(&self, _name: &str) -> Result<(), CopyRefusal> {
-        Err(CopyRefusal::NoCopies)
-    }
-
-    fn copy(
-        &self,
-        _rt: &impl Wait,
-        _alloc: Global,
-        _name: &str,
-        _closed: Option<u64>,
-    ) -> Result<(), CopyRefusal> {
-        Err(CopyRefusal::NoCopies)
+    fn end_waits(&self, rt: &impl Wait) {
+        self.desk.lock(rt).end_waits();
+        self.moved.notify_all();
     }
 }

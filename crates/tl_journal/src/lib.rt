@@ -5,4 +5,4 @@
 mod desk;
 mod journal;
 
-pub use journal::{JournalParts, LedgerJournal};
+pub use journal::{JournalParts, LedgerJournal, follow_refusal_of, marks_at};

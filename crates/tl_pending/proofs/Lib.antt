@@ -1,3 +1,4 @@
 pub mod AppendedLemmas
 pub mod AddedLemmas
 pub mod CallLemmas
+mod EpochLemmas

@@ -40,7 +40,7 @@ pub fn no_news(alloc: Global) -> News
 
 // Whether there is no news.
 fn is_empty(news: &News) -> bool
-    ensures { result ≡ true → IsEmpty news.now }
+    ensures { IsTrue result ↔ IsEmpty news.now }
 {
     news.nodes.is_empty()
         && news.procedures.is_empty()
@@ -348,12 +348,12 @@ impl Pending {
         Some(mem::replace(&mut self.news, no_news(alloc)))
     }
 
-    /// What comes from now on is of the next volume, which has so many rows by now. False if something came that isn't stored, or was lost; then
-    /// nothing is changed.
+    /// What comes from now on is of the next volume, which has so many rows. False, and nothing is changed, if something isn't stored, or was lost.
     pub fn turn_over(&mut self, rows: Marks) -> bool
         ensures turned { result ≡ true → IsEmpty self.old.news × (self.old.is_lost ≡ false)
             × (self.new ≡ record self.old { before = added self.old.before self.old.rows.seals; rows = rows }) }
         ensures same { result ≡ false → self.new ≡ self.old }
+        ensures unstored { result ≡ false → IsEmpty self.old.news → self.old.is_lost ≡ true }
     {
         if self.is_lost || !is_empty(&self.news) {
             return false;

@@ -8,3 +8,4 @@ pub mod Browsers
 pub mod Goings
 pub mod Later
 pub mod TextLemmas
+mod FollowLemmas

@@ -1,5 +1,6 @@
 pub mod Faults
 pub mod Requests
+pub mod Following
 pub mod Lines
 pub mod Browsers
 pub mod Devices

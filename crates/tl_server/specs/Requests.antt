@@ -135,15 +135,23 @@ line_request_of d = option_and_then (λ op. request_with op d) (text_at (codes "
 
 -- ---- a line
 
--- The line is short enough, is UTF-8, and contains this request.
-pub record IsRequest (line : List ℕ) (r : LineValue) : Type 0 where
+-- The line is short enough, is UTF-8, and this is what is read from its value.
+pub record IsRead {A : Type 0} (reads : Data → Option A) (line : List ℕ) (found : A) : Type 0 where
   pub short : length line ≤ MAX_LINE
   pub utf8 : IsUtf8 line
-  pub same : option_and_then line_request_of (read line) ≡ Some r
+  pub same : option_and_then reads (read line) ≡ Some found
 
--- the first fault of a line
+-- the first fault of a line from whose value nothing is read
+abbrev pub IsUnread : {A : Type 0} → (Data → Option A) → List ℕ → LineFault → Type 0
+IsUnread reads line fault.TooLong = MAX_LINE < length line
+IsUnread reads line fault.NotUtf8 = (length line ≤ MAX_LINE) × ¬ IsUtf8 line
+IsUnread reads line fault.NotRequest = (length line ≤ MAX_LINE) × IsUtf8 line × (option_and_then reads (read line) ≡ None)
+IsUnread reads line fault.Memory = ⊥
+
+-- the line contains this request
+abbrev pub IsRequest : List ℕ → LineValue → Type 0
+IsRequest = IsRead line_request_of
+
+-- the first fault of a line that contains none
 abbrev pub IsLineFault : List ℕ → LineFault → Type 0
-IsLineFault line fault.TooLong = MAX_LINE < length line
-IsLineFault line fault.NotUtf8 = (length line ≤ MAX_LINE) × ¬ IsUtf8 line
-IsLineFault line fault.NotRequest = (length line ≤ MAX_LINE) × IsUtf8 line × (option_and_then line_request_of (read line) ≡ None)
-IsLineFault line fault.Memory = ⊥
+IsLineFault = IsUnread line_request_of

@@ -140,6 +140,13 @@ impl<'a> Control<'a> {
         Ok(Control { entrance })
     }
 
+    /// Where it listens, with the port that the system chose where 0 was asked for.
+    pub fn address(&self) -> Address<'a>
+        ensures { result ≡ self.now.entrance.address }
+    {
+        self.entrance.address
+    }
+
     /// Listens no more, and removes the socket's file.
     pub fn close(self, rt: &impl Files) {
         let Control { entrance } = self;
@@ -199,6 +206,7 @@ impl<'a> Control<'a> {
         for _ in rt.forever() {
             if self.is_asked(rt, alloc, hall, reporter) {
                 hall.stop(rt);
+                reporter.end_waits(rt);
             }
             match hall.phase_soon(rt, Duration::from_millis(PAUSE)) {
                 Phase::Over => return,

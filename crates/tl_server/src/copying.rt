@@ -38,7 +38,7 @@ const REFUSALS: [CopyRefusal; 6] = [
 ];
 
 impl CopyRefusal {
-    ghost use Rattle.std.specs.Prelude.{◌≡◌, [], ◌∷◌, IfSome};
+    ghost use Rattle.std.specs.Prelude.{◌≡◌, ◌≢◌, [], ◌∷◌, None, IfSome};
     ghost use Rattle.tl_server.specs.Faults.{copy_number, copy_status, uncopied};
 
     /// Why there is no copy where a store goes on in no new volume.
@@ -90,7 +90,8 @@ impl CopyRefusal {
 
     /// The one with that number, if there is one.
     pub(crate) fn of_number(number: u64) -> Option<CopyRefusal>
-        ensures { IfSome result (λ refusal. copy_number refusal ≡ number) }
+        ensures one { IfSome result (λ refusal. copy_number refusal ≡ number) }
+        ensures none { result ≡ None → (refusal : CopyRefusal) → copy_number refusal ≢ number }
     {
         REFUSALS
             .iter()

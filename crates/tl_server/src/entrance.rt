@@ -57,15 +57,26 @@ impl Listener {
     }
 }
 
-/// A listener, and the file that was made for it.
+// Listens at a port of this machine, or if it is 0 at one that the system chooses, and which port that is.
+fn listen_at<R: Net<Listener = TcpListener, Stream = TcpStream>>(
+    rt: &R,
+    port: u16,
+) -> io::Result<(u16, TcpListener)> {
+    let listener = rt.bind(local(port))?;
+    let port = listener.local_addr()?.port();
+    Ok((port, listener))
+}
+
+/// A listener, where it listens, and the file that was made for it.
 #[derive(Drop)]
 pub(crate) struct Entrance<'a> {
     pub(crate) listener: Listener,
+    pub(crate) address: Address<'a>,
     file: Option<SocketFile<'a>>,
 }
 
 impl<'a> Entrance<'a> {
-    /// Listens at the address. The file of a socket gets these permissions. 33 if that can't be done.
+    /// Listens at the address; for port 0 the system chooses a port. The file of a socket gets these permissions. 33 if that can't be done.
     pub(crate) fn open<R>(
         rt: &R,
         address: Address<'a>,
@@ -76,9 +87,10 @@ impl<'a> Entrance<'a> {
         ensures { IfErr result (λ e. e ≡ NoPort) }
     {
         match address {
-            Address::Port(port) => match rt.bind(local(port)) {
-                Ok(listener) => Ok(Entrance {
+            Address::Port(port) => match listen_at(rt, port) {
+                Ok((port, listener)) => Ok(Entrance {
                     listener: Listener::Port { port, listener },
+                    address: Address::Port(port),
                     file: None,
                 }),
                 Err(_) => Err(ListenFault::NoPort),
@@ -86,6 +98,7 @@ impl<'a> Entrance<'a> {
             Address::Socket(path) => match SocketFile::listen(rt, path, mode) {
                 Ok((listener, file)) => Ok(Entrance {
                     listener: Listener::Socket(listener),
+                    address,
                     file: Some(file),
                 }),
                 Err(_) => Err(ListenFault::NoPort),
@@ -95,7 +108,11 @@ impl<'a> Entrance<'a> {
 
     /// Listens no more, and removes the file.
     pub(crate) fn close(self, rt: &impl Files) {
-        let Entrance { listener, file } = self;
+        let Entrance {
+            listener,
+            address: _,
+            file,
+        } = self;
         if let Some(file) = file {
             file.remove(rt);
         }

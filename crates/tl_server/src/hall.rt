@@ -47,6 +47,26 @@ struct Served {
     sessions: Vec<Session>,
 }
 
+impl Served {
+    // Keeps the connection, so that a stop can end it, if there are stops. False if that can't be done.
+    fn takes(&mut self, number: u64, stream: &Stream) -> bool {
+        let Some(streams) = &mut self.streams else {
+            return true;
+        };
+        match stream.try_clone() {
+            Ok(stream) => streams.push(Open { number, stream }).is_ok(),
+            Err(_) => false,
+        }
+    }
+
+    // Lets go of a connection that has ended.
+    fn let_go(&mut self, number: u64) {
+        if let Some(streams) = &mut self.streams {
+            streams.retain(|open| open.number != number);
+        }
+    }
+}
+
 /// What the threads of connections share.
 #[derive(Drop)]
 pub struct Hall {
@@ -129,16 +149,18 @@ impl Hall {
     /// Whether the connection may be served. It isn't served after a stop, nor if a stop couldn't end it.
     pub fn lets_in(&self, rt: &impl Wait, number: u64, stream: &Stream) -> bool {
         let mut served = self.served.lock(rt);
-        if served.phase != Phase::Serving {
-            return false;
-        }
-        let Some(streams) = &mut served.streams else {
-            return true;
-        };
-        match stream.try_clone() {
-            Ok(stream) => streams.push(Open { number, stream }).is_ok(),
-            Err(_) => false,
-        }
+        served.phase == Phase::Serving && served.takes(number, stream)
+    }
+
+    /// The same of a follower's connection, which takes no place: it is also served while the last connections of others are open.
+    pub fn lets_follow(&self, rt: &impl Wait, number: u64, stream: &Stream) -> bool {
+        let mut served = self.served.lock(rt);
+        !self.is_ending.load(Ordering::SeqCst) && served.takes(number, stream)
+    }
+
+    /// Lets go of the connection of a follower that has ended.
+    pub fn let_go(&self, rt: &impl Wait, number: u64) {
+        self.served.lock(rt).let_go(number);
     }
 
     /// How many connections are open that a stop can end.
@@ -154,9 +176,7 @@ impl Hall {
     pub fn give_place(&self, rt: &impl Wait, number: u64) {
         let mut served = self.served.lock(rt);
         served.open = served.open.saturating_sub(1);
-        if let Some(streams) = &mut served.streams {
-            streams.retain(|open| open.number != number);
-        }
+        served.let_go(number);
         drop(served);
         self.changed.notify_all();
     }

@@ -3,11 +3,8 @@
 ghost use Rattle.std.specs.Prelude.{◌≡◌, ◌↔◌, Bool, false, IsOk};
 ghost use Rattle.tl_server.specs.declared.journal.Claim.TheVariants.{NoStore};
 
-use crate::copying::CopyRefusal;
-use crate::volume::VolumeRefusal;
 use std::alloc::Global;
 use std::sync::Wait;
-use tl_generations::Legacy;
 use tl_keys::Kept;
 use tl_procedures::Procedures;
 use tl_workers::Engine;
@@ -72,33 +69,8 @@ pub trait Journal {
     fn settle(&self, rt: &impl Wait, alloc: Global) -> Result<(), Unstored>
         ensures { is_storing self.now ≡ false → IsOk result };
 
-    /// The number of the live volume of what it stores: how many epochs the volumes before it have. `None` if what it stores has no volumes.
-    fn volume(&self, rt: &impl Wait) -> Option<u64>;
-
-    /// Whether the live volume has as many calls as a volume takes.
-    fn is_full(&self, rt: &impl Wait) -> bool;
-
-    /// Goes on in a new volume, which begins with what the engine that was closed last left, unless the live one has no call yet. The number of the live
-    /// volume. No line is at work meanwhile. After a refusal it goes on in the live volume, if the store doesn't fail.
-    fn carry_over(
-        &self,
-        rt: &impl Wait,
-        alloc: Global,
-        left: &Legacy,
-    ) -> Result<u64, VolumeRefusal>;
-
-    /// Whether there may be a copy of that name: it is no name of a copy, or it is taken, or no copies are made.
-    fn may_copy(&self, name: &str) -> Result<(), CopyRefusal>;
-
-    /// Copies all that is stored into a file of that name, which isn't there yet: the volume of that number, which is closed, or if none is named the live
-    /// one, or the store's file.
-    fn copy(
-        &self,
-        rt: &impl Wait,
-        alloc: Global,
-        name: &str,
-        closed: Option<u64>,
-    ) -> Result<(), CopyRefusal>;
+    /// Lets no answer wait for a follower any more, since the server ends. What rests on rows that none holds isn't answered.
+    fn end_waits(&self, rt: &impl Wait);
 }
 
 /// The journal of a server that stores nothing: there is nothing to wait for.
@@ -139,34 +111,5 @@ impl Journal for NoJournal {
         Ok(())
     }
 
-    fn volume(&self, _rt: &impl Wait) -> Option<u64> {
-        None
-    }
-
-    fn is_full(&self, _rt: &impl Wait) -> bool {
-        false
-    }
-
-    fn carry_over(
-        &self,
-        _rt: &impl Wait,
-        _alloc: Global,
-        _left: &Legacy,
-    ) -> Result<u64, VolumeRefusal> {
-        Err(VolumeRefusal::NoVolumes)
-    }
-
-    fn may_copy(&self, _name: &str) -> Result<(), CopyRefusal> {
-        Err(CopyRefusal::NoCopies)
-    }
-
-    fn copy(
-        &self,
-        _rt: &impl Wait,
-        _alloc: Global,
-        _name: &str,
-        _closed: Option<u64>,
-    ) -> Result<(), CopyRefusal> {
-        Err(CopyRefusal::NoCopies)
-    }
+    fn end_waits(&self, _rt: &impl Wait) {}
 }

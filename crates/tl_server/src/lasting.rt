@@ -6,14 +6,16 @@ ghost use Rattle.tl_server.specs.declared.fault.ListenFault.TheVariants.{Memory}
 use crate::control::Control;
 use crate::entrance::{Entrance, Listener};
 use crate::fault::ListenFault;
+use crate::feed::Feed;
 use crate::hall::{Hall, LASTING_PLACES, Phase};
-use crate::journal::Journal;
 use crate::keeper::Keeper;
 use crate::listening::{Door, helpers};
 use crate::relay::Relay;
 use crate::serving::serve;
 use crate::socket::{SocketSink, SocketSource};
 use crate::stage::Place;
+use crate::status::Reporter;
+use crate::storage::Storage;
 use crate::stored_sink::StoredSink;
 use crate::stream::{Address, Stream};
 use crate::texts::Texts;
@@ -37,7 +39,7 @@ struct Room<'a, K, J> {
 }
 
 // Serves a connection to its end.
-fn visit<R, K: Keeper + Texts, J: Journal>(
+fn visit<R, K: Keeper + Texts, J: Storage>(
     rt: &R,
     alloc: Global,
     room: &Room<'_, K, J>,
@@ -54,8 +56,9 @@ where
     // A fault ends this connection, and no other.
     let _ = serve(rt, alloc, &mut source, &mut sink, relay, &mut place);
     if sink.has_failed() {
-        // What is done from now on isn't stored either.
+        // What is done from now on isn't stored either, and no follower is left that could hold what is.
         hall.stop(rt);
+        relay.end_waits(rt);
         room.listener.wake(rt);
     }
     drop(stream);
@@ -68,7 +71,7 @@ where
 }
 
 // Serves the connections that come through the door, while threads stay that help with batches.
-fn serve_all<R, K: Keeper + Texts + Send, J: Journal + Sync>(
+fn serve_all<R, K: Keeper + Texts + Send, J: Storage + Sync>(
     rt: &R,
     alloc: Global,
     door: Door<'_>,
@@ -88,6 +91,32 @@ where
         None => serve_each(rt, alloc, door, relay, hall),
     }
     hall.enter(rt, Phase::Over);
+}
+
+// Serves the connections that come through the door, and followers beside them, if there is a feed. Without a thread for those none is served.
+fn serve_and_feed<R, K: Keeper + Texts + Send, J: Storage + Sync>(
+    rt: &R,
+    alloc: Global,
+    door: Door<'_>,
+    relay: &Relay<K, J>,
+    hall: &Hall,
+    feed: Option<&Feed<'_>>,
+)
+where
+    R: Net<Listener = TcpListener, Stream = TcpStream> + Eprint + Threads + Wait + Clock + Sync,
+{
+    let Some(feed) = feed else {
+        return serve_all(rt, alloc, door, relay, hall);
+    };
+    thread::scope(thread::scope_env(), rt, |scope| {
+        let feeds = move || feed.watch(rt, alloc, hall, relay);
+        if scope.spawn(feeds).is_err() {
+            let _shown = eprintln!(rt;
+                "treedb: no thread could be started for followers, so none is served"
+            );
+        }
+        serve_all(rt, alloc, door, relay, hall);
+    });
 }
 
 // Says once that as many connections are open as may be, if so.
@@ -120,7 +149,7 @@ fn next<R: Wait + Clock>(rt: &R, door: Door<'_>, number: u64, hall: &Hall) -> Op
 
 // Serves the connections that come through the door, each on a thread of its own if one can be started, otherwise on this
 // one.
-fn serve_each<R, K: Keeper + Texts + Send, J: Journal + Sync>(
+fn serve_each<R, K: Keeper + Texts + Send, J: Storage + Sync>(
     rt: &R,
     alloc: Global,
     door: Door<'_>,
@@ -159,7 +188,7 @@ where
 
 // A hall for so many connections at once, which are ended if what was done can't be stored. If memory is refused for that, each is ended
 // when it is to be answered.
-fn hall_for<K: Keeper + Texts, J: Journal>(
+fn hall_for<K: Keeper + Texts, J: Storage>(
     alloc: Global,
     relay: &Relay<K, J>,
     places: u16,
@@ -201,6 +230,13 @@ impl<'a> LastingServer<'a> {
         })
     }
 
+    /// Where it listens, with the port that the system chose where 0 was asked for.
+    pub fn address(&self) -> Address<'a>
+        ensures { result ≡ self.now.entrance.address }
+    {
+        self.entrance.address
+    }
+
     /// Serves so many connections in all.
     pub fn with_connections(self, connections: u64) -> LastingServer<'a> {
         LastingServer {
@@ -226,11 +262,12 @@ impl<'a> LastingServer<'a> {
     /// Serves its connections until there were as many as it serves. Where one can't be accepted, that is tried again soon. A
     /// connection that fails is ended, and the others go on; but if what was done can't be stored, no more connections are accepted, and
     /// those that are open are ended. In the end the socket's file is removed.
-    pub fn serve<R, K: Keeper + Texts + Send, J: Journal + Sync>(
+    pub fn serve<R, K: Keeper + Texts + Send, J: Storage + Sync>(
         self,
         rt: &R,
         alloc: Global,
         relay: &Relay<K, J>,
+        feed: Option<&Feed<'_>>,
     )
     where
         R: Files
@@ -253,19 +290,20 @@ impl<'a> LastingServer<'a> {
             connections,
             idle,
         };
-        serve_all(rt, alloc, door, relay, &hall);
+        serve_and_feed(rt, alloc, door, relay, &hall, feed);
         entrance.close(rt);
     }
 
     /// Serves its connections as `serve` does, until it is asked to stop at the control. Then it accepts no more
     /// connections. On those that are open, each line that was read whole is answered, and then they are ended. 990 if memory, or a
     /// thread for the control, is refused before the first connection.
-    pub fn serve_until_stopped<R, K: Keeper + Texts + Send, J: Journal + Sync>(
+    pub fn serve_until_stopped<R, K: Keeper + Texts + Send, J: Storage + Sync>(
         self,
         rt: &R,
         alloc: Global,
         relay: &Relay<K, J>,
         control: &Control<'_>,
+        feed: Option<&Feed<'_>>,
     ) -> Result<(), ListenFault>
     where
         R: Files
@@ -300,7 +338,7 @@ impl<'a> LastingServer<'a> {
                 connections,
                 idle,
             };
-            serve_all(rt, alloc, door, relay, hall);
+            serve_and_feed(rt, alloc, door, relay, hall, feed);
             true
         });
         entrance.close(rt);

@@ -190,6 +190,13 @@ impl<'a> Server<'a> {
         })
     }
 
+    /// Where it listens, with the port that the system chose where 0 was asked for.
+    pub fn address(&self) -> Address<'a>
+        ensures { result ≡ self.now.entrance.address }
+    {
+        self.entrance.address
+    }
+
     /// Ends a connection that sends nothing for `idle` while the server waits for its next line, or takes none of its
     /// answers for that time.
     pub fn ending_idle(self, idle: Duration) -> Server<'a> {

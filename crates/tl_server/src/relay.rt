@@ -12,7 +12,8 @@ ghost use Rattle.tl_server.specs.Served.{GrowthOutcome, ReplaceOutcome, ReadBy, 
 use crate::answer::put_error_line;
 use crate::control::{NO_MEMORY, say};
 use crate::copying::CopyRefusal;
-use crate::journal::{Journal, Unstored};
+use crate::follow::{Follow, FollowRefusal};
+use crate::journal::Unstored;
 use crate::keeper::Keeper;
 use crate::outbox::Outbox;
 use crate::outcome::{Done, RequestOutcome, put_outcome};
@@ -22,6 +23,7 @@ use crate::service::Service;
 use crate::socket::SocketSink;
 use crate::stage::{Pause, Place, Stage, knows_all, turn_over};
 use crate::status::{Reporter, Status, Tally};
+use crate::storage::Storage;
 use crate::stored_sink::StoredSink;
 use crate::stream::Stream;
 use crate::texts::{NamedBounds, ReplaceFault, TextProcedures, Texts, read_procedures};
@@ -29,6 +31,7 @@ use crate::volume::VolumeRefusal;
 use std::alloc::Global;
 use std::sync::{Arc, Mutex, RwLock, Wait};
 use std::thread::Threads;
+use std::time::Clock;
 use tl_generations::GrowthFault;
 use tl_procedures::{Procedures, ReplacingFault};
 use tl_workers::{Crew, Engine, NoGate, Session};
@@ -51,7 +54,7 @@ pub struct Relay<K, J> {
     crew: Option<Arc<Crew>>,
 }
 
-impl<K: Keeper + Texts, J: Journal> Relay<K, J> {
+impl<K: Keeper + Texts, J: Storage> Relay<K, J> {
     /// A relay that begins with this engine, which has no sessions yet and seals its epochs by itself. The next one takes over after
     /// so many epochs, at least one.
     pub fn new(alloc: Global, engine: Engine, keeper: K, journal: J, epochs: u32) -> Relay<K, J>
@@ -208,7 +211,7 @@ impl<K: Keeper + Texts, J: Journal> Relay<K, J> {
     }
 }
 
-impl<K: Keeper + Texts, J: Journal> Relay<K, J> {
+impl<K: Keeper + Texts, J: Storage> Relay<K, J> {
     // Does what a request asks for by an engine that has room for it. `None` if memory is refused.
     fn perform_by_engine<R: Threads + Wait + Sync>(
         &self,
@@ -328,7 +331,7 @@ impl<K: Keeper + Texts, J: Journal> Relay<K, J> {
     }
 }
 
-impl<K: Keeper + Texts, J: Journal> Relay<K, J> {
+impl<K: Keeper + Texts, J: Storage> Relay<K, J> {
     // Goes on in a new volume of what is stored, as soon as no line is at work: the next engine takes over. The numbers of the volume that was live until
     // then, which is closed now, and of the live one; the same number twice if it goes on in the volume that it had.
     fn begin_volume(&self, rt: &impl Wait, alloc: Global) -> Result<(u64, u64), VolumeRefusal> {
@@ -378,7 +381,7 @@ fn known(grown: Result<u32, GrowthFault>) -> Option<Result<u32, GrowthFault>>
 }
 
 /// A relay serves each connection by sessions of its engines, one after another. The numbers of epochs go on from one to the next.
-impl<K: Keeper + Texts, J: Journal> Service for Relay<K, J> {
+impl<K: Keeper + Texts, J: Storage> Service for Relay<K, J> {
     type Visitor = Place;
 
     ghost use Rattle.std.specs.Prelude.{◌≤◌, true};
@@ -434,7 +437,7 @@ impl<K: Keeper + Texts, J: Journal> Service for Relay<K, J> {
 }
 
 /// A relay counts what it answers, does what an operator asks for as what a client asks for, and its journal copies what it stores.
-impl<K: Keeper + Texts, J: Journal> Reporter for Relay<K, J> {
+impl<K: Keeper + Texts, J: Storage> Reporter for Relay<K, J> {
     fn status(&self, rt: &impl Wait, connections: u64, places: u64) -> Option<Status> {
         let stage = self.stage.read(rt);
         Some(Status {
@@ -479,5 +482,18 @@ impl<K: Keeper + Texts, J: Journal> Reporter for Relay<K, J> {
     fn turn(&self, rt: &impl Wait, alloc: Global) -> Result<u64, VolumeRefusal> {
         let (_, live) = self.begin_volume(rt, alloc)?;
         Ok(live)
+    }
+
+    fn answer_follower<R: Wait + Clock>(
+        &self,
+        rt: &R,
+        alloc: Global,
+        follow: &Follow,
+    ) -> Result<String, FollowRefusal> {
+        self.journal.answer_follower(rt, alloc, follow)
+    }
+
+    fn end_waits(&self, rt: &impl Wait) {
+        self.journal.end_waits(rt);
     }
 }

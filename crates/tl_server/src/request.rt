@@ -5,12 +5,13 @@ ghost use Rattle.tl_workers.specs.declared.batch.TheConstants.{MAX_REQUESTS, MAX
 ghost use Rattle.serde_json.specs.View.{view};
 ghost use Rattle.tl_json.specs.Requests.{request_form};
 ghost use Rattle.tl_tree.specs.Reading.{integer_of, integers_of};
-ghost use Rattle.tl_server.specs.Requests.{line_view, is_barred, text_at, has_members, register_text_of, register_of, replace_of, request_at, key_of, call_once_of, call_of, workers_of, batch_of, grow_of, request_with, line_request_of, IsRequest, IsLineFault};
+ghost use Rattle.tl_server.specs.Requests.{line_view, is_barred, text_at, has_members, register_text_of, register_of, replace_of, request_at, key_of, call_once_of, call_of, workers_of, batch_of, grow_of, request_with, line_request_of, IsRequest, IsLineFault, IsRead, IsUnread};
 
 use crate::batch::BatchRequest;
 use crate::fault::LineFault;
 use serde_json::Value;
 use std::alloc::{AllocError, Global};
+use std::str;
 use tl_json::{ProcedureText, Request, each_of};
 use tl_tokens::{Scratch, parse_with};
 use tl_tree::integers_from_value;
@@ -69,8 +70,8 @@ pub(crate) fn is_barred(frozen: bool, request: &LineRequest) -> bool
     }
 }
 
-// Whether the value is an object with `count` members.
-fn has_members(value: &Value, count: usize) -> bool
+/// Whether the value is an object with `count` members.
+pub(crate) fn has_members(value: &Value, count: usize) -> bool
     ensures { result ≡ has_members count (view value.now) }
 {
     match value.as_object() {
@@ -79,8 +80,8 @@ fn has_members(value: &Value, count: usize) -> bool
     }
 }
 
-// The text of a member.
-fn text_at<'v>(value: &'v Value, key: &str) -> Option<&'v str>
+/// The text of a member.
+pub(crate) fn text_at<'v>(value: &'v Value, key: &str) -> Option<&'v str>
     ensures { option_map (λ s. s.now) result ≡ text_at key.now (view value.now) }
 {
     value.get(key)?.as_str()
@@ -308,17 +309,30 @@ pub(crate) fn read_request_with(
     ensures ok { IfOk result (λ r. IsRequest line.now (line_view r)) }
     ensures fault { IfErr result (λ e. e ≢ LineFault.Memory → IsLineFault line.now e) }
 {
+    let value = value_of_line(alloc, line, scratch)?;
+    match request_of_value(alloc, &value)? {
+        Some(request) => Ok(request),
+        None => Err(LineFault::NotRequest),
+    }
+}
+
+/// The JSON value of a line, without its LF, for a caller that reads many lines and keeps the memory that reading needs.
+pub(crate) fn value_of_line(
+    alloc: Global,
+    line: &[u8],
+    scratch: &mut Scratch,
+) -> Result<Value, LineFault>
+    ensures ok { IfOk result (λ v. IsRead Some line.now (view v)) }
+    ensures fault { IfErr result (λ e. e ≢ LineFault.Memory → IsUnread Some line.now e) }
+{
     if line.len() > MAX_LINE {
         return Err(LineFault::TooLong);
     }
-    let Ok(text) = std::str::from_utf8(line) else {
+    let Ok(text) = str::from_utf8(line) else {
         return Err(LineFault::NotUtf8);
     };
-    let Some(value) = parse_with(alloc, text, scratch)? else {
-        return Err(LineFault::NotRequest);
-    };
-    match request_of_value(alloc, &value)? {
-        Some(request) => Ok(request),
+    match parse_with(alloc, text, scratch)? {
+        Some(value) => Ok(value),
         None => Err(LineFault::NotRequest),
     }
 }

@@ -16,6 +16,7 @@ use crate::outcome::{Done, RequestOutcome};
 use crate::request::LineRequest;
 use crate::seats::Seats;
 use crate::service::act;
+use crate::storage::Storage;
 use crate::texts::{Texts, register_text};
 use crate::volume::VolumeRefusal;
 use std::alloc::Global;
@@ -201,7 +202,7 @@ impl Stage {
 
     // Hands the engine over to the keeper, with all its sessions, and before that to the journal. False if there is none, if a session is
     // away, or if the number of epochs is used up; then nothing is changed.
-    pub(crate) fn close<K: Keeper, J: Journal>(
+    pub(crate) fn close<K: Keeper, J: Storage>(
         &mut self,
         rt: &impl Wait,
         alloc: Global,
@@ -271,7 +272,7 @@ impl Stage {
 }
 
 /// Goes on in a new volume of what is stored, which begins with what the engine that was closed last left. The number of the live volume.
-pub(crate) fn turn_over<K: Keeper, J: Journal>(
+pub(crate) fn turn_over<K: Keeper, J: Storage>(
     rt: &impl Wait,
     alloc: Global,
     keeper: &mut K,

@@ -12,6 +12,7 @@ use crate::answer::put_number;
 use crate::control::{NO_REQUEST, say};
 use crate::copying::CopyRefusal;
 use crate::device::Sink;
+use crate::follow::{Follow, FollowRefusal};
 use crate::outbox::Outbox;
 use crate::outcome::RequestOutcome;
 use crate::request::LineRequest;
@@ -21,6 +22,7 @@ use std::alloc::Global;
 use std::sync::Wait;
 use std::sync::atomic::{AtomicBool, AtomicU64, Ordering};
 use std::thread::Threads;
+use std::time::Clock;
 use tl_workers::Engine;
 
 /// How far a server that lasts is.
@@ -69,6 +71,17 @@ pub trait Reporter {
 
     /// Goes on in a new volume of what is stored. The number of the live volume.
     fn turn(&self, rt: &impl Wait, alloc: Global) -> Result<u64, VolumeRefusal>;
+
+    /// What is stored behind a position, as `Journal::answer_follower` says.
+    fn answer_follower<R: Wait + Clock>(
+        &self,
+        rt: &R,
+        alloc: Global,
+        follow: &Follow,
+    ) -> Result<String, FollowRefusal>;
+
+    /// Lets no answer wait for a follower any more, since the server ends.
+    fn end_waits(&self, rt: &impl Wait);
 }
 
 /// An engine alone doesn't say, stores nothing, and has no operator.
@@ -95,6 +108,17 @@ impl Reporter for Engine {
     fn turn(&self, _rt: &impl Wait, _alloc: Global) -> Result<u64, VolumeRefusal> {
         Err(VolumeRefusal::NoVolumes)
     }
+
+    fn answer_follower<R: Wait + Clock>(
+        &self,
+        _rt: &R,
+        _alloc: Global,
+        _follow: &Follow,
+    ) -> Result<String, FollowRefusal> {
+        Err(FollowRefusal::NoStore)
+    }
+
+    fn end_waits(&self, _rt: &impl Wait) {}
 }
 
 // How many receipts are in an answer.

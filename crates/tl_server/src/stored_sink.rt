@@ -3,9 +3,9 @@
 ghost use Rattle.std.specs.Prelude.{◌≡◌, ◌+◌};
 
 use crate::device::{Failure, Sink};
-use crate::journal::Journal;
 use crate::keeper::Keeper;
 use crate::relay::Relay;
+use crate::storage::Storage;
 use crate::texts::Texts;
 use std::alloc::Global;
 use std::sync::Wait;
@@ -34,7 +34,7 @@ pub struct StoredSink<'a, R, K, J, S> {
     failed: u64,
 }
 
-impl<'a, R: Wait, K: Keeper + Texts, J: Journal, S: Sink> StoredSink<'a, R, K, J, S> {
+impl<'a, R: Wait, K: Keeper + Texts, J: Storage, S: Sink> StoredSink<'a, R, K, J, S> {
     /// Writes to this sink.
     pub fn new(
         rt: &'a R,
@@ -51,18 +51,13 @@ impl<'a, R: Wait, K: Keeper + Texts, J: Journal, S: Sink> StoredSink<'a, R, K, J
         }
     }
 
-    /// The sink.
-    pub fn into_sink(self) -> S {
-        self.sink
-    }
-
     /// Whether a write has failed because something wasn't stored.
     pub fn has_failed(&self) -> bool {
         self.failed > 0
     }
 }
 
-impl<'a, R: Wait, K: Keeper + Texts, J: Journal, S: Sink> Sink for StoredSink<'a, R, K, J, S> {
+impl<'a, R: Wait, K: Keeper + Texts, J: Storage, S: Sink> Sink for StoredSink<'a, R, K, J, S> {
     ghost use Rattle.std.specs.Prelude.{◌+◌};
 
     ghost output = { λ s. S.output s.sink };

@@ -33,7 +33,7 @@ const REFUSALS: [VolumeRefusal; 5] = [
 ];
 
 impl VolumeRefusal {
-    ghost use Rattle.std.specs.Prelude.{◌≡◌, [], ◌∷◌, IfSome};
+    ghost use Rattle.std.specs.Prelude.{◌≡◌, ◌≢◌, [], ◌∷◌, None, IfSome};
     ghost use Rattle.tl_server.specs.Faults.{volume_number, volume_status};
 
     /// Its number.
@@ -71,7 +71,8 @@ impl VolumeRefusal {
 
     /// The one with that number, if there is one.
     pub(crate) fn of_number(number: u64) -> Option<VolumeRefusal>
-        ensures { IfSome result (λ refusal. volume_number refusal ≡ number) }
+        ensures one { IfSome result (λ refusal. volume_number refusal ≡ number) }
+        ensures none { result ≡ None → (refusal : VolumeRefusal) → volume_number refusal ≢ number }
     {
         REFUSALS
             .iter()

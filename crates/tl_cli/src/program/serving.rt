@@ -19,8 +19,8 @@ use tl_generations::Succession;
 use tl_json::RegisterFault;
 use tl_procedures::Procedures;
 use tl_server::{
-    Address, Control, Journal, Keeper, LastingServer, ListenFault, NoJournal, Relay, Server, Texts,
-    ask_for_copy, ask_for_volume, ask_status, ask_to_obey, ask_to_stop,
+    Address, Control, Feed, Keeper, LastingServer, ListenFault, NoJournal, Relay, Server, Storage,
+    Texts, ask_for_copy, ask_for_volume, ask_status, ask_to_obey, ask_to_stop,
 };
 use tl_verify::Proc;
 use tl_workers::{Engine, Session};
@@ -71,6 +71,14 @@ where
         };
     }
 
+    // Says to people where followers connect.
+    fn show_feed(&self, address: Address<'_>) {
+        let _shown = match address {
+            Address::Port(port) => eprintln!(self.rt; "treedb: followers at 127.0.0.1:{port}"),
+            Address::Socket(path) => eprintln!(self.rt; "treedb: followers at {path}"),
+        };
+    }
+
     // Says to people how the server is asked to stop.
     fn show_control(&self, control: Address<'_>) {
         let _shown = match control {
@@ -90,7 +98,7 @@ where
         let (alloc, address) = (self.rt.alloc(), options.address);
         let bound = Server::bind(self.rt, alloc, address, options.mode, connections);
         let server = bound.map_err(|fault| not_bound(address, fault))?;
-        self.show_address(address);
+        self.show_address(server.address());
         let server = server.with_places(options.at_once);
         Ok(match silence(options.idle) {
             Some(idle) => server.ending_idle(idle),
@@ -130,7 +138,7 @@ where
         address: Address<'p>,
     ) -> Result<Vec<Session>, Failure<'p>> {
         let server = self.listen(options, connections)?;
-        self.show_control(address);
+        self.show_control(control.address());
         let served = server.serve_until_stopped(self.rt, self.rt.alloc(), engine, control);
         served.map_err(|fault| not_bound(address, fault))
     }
@@ -221,10 +229,13 @@ where
     where
         K: Keeper + Texts + Finish + Send + Drop,
         F: FnOnce(Trails, Succession, u32) -> K + Drop,
-        J: Journal + End + Sync + Drop,
+        J: Storage + End + Sync + Drop,
         requires { F.IsAlwaysCallable archive }
     {
         self.register_named(&opening.engine, &opening.known, procedures)?;
+        if options.waits_for_holder {
+            opening.journal.wait_for_holder(self.rt);
+        }
         let Opening {
             engine,
             journal,
@@ -253,7 +264,7 @@ where
     ) -> Result<String, Failure<'p>>
     where
         K: Keeper + Texts + Finish + Send + Drop,
-        J: Journal + End + Sync + Drop,
+        J: Storage + End + Sync + Drop,
     {
         self.serve_connections(&relay, options, connections)?;
         let (left, mut archive, journal) = relay.into_parts(self.rt, self.rt.alloc());
@@ -298,35 +309,55 @@ where
     }
 
     // Serves connections until there were as many as were asked for, or until the server is asked to stop.
-    fn serve_connections<'p, K: Keeper + Texts + Send, J: Journal + Sync>(
+    fn serve_connections<'p, K: Keeper + Texts + Send, J: Storage + Sync>(
         &self,
         relay: &Relay<K, J>,
         options: ServeOptions<'p>,
         connections: Option<u16>,
     ) -> Result<(), Failure<'p>> {
+        let Some(address) = options.followers else {
+            return self.serve_with(relay, options, connections, None);
+        };
+        let bound = Feed::bind(self.rt, address, options.mode);
+        let feed = bound.map_err(|fault| not_bound(address, fault))?;
+        self.show_feed(feed.address());
+        let served = self.serve_with(relay, options, connections, Some(&feed));
+        feed.close(self.rt);
+        served
+    }
+
+    // The same, where followers are served at that feed, if there is one.
+    fn serve_with<'p, K: Keeper + Texts + Send, J: Storage + Sync>(
+        &self,
+        relay: &Relay<K, J>,
+        options: ServeOptions<'p>,
+        connections: Option<u16>,
+        feed: Option<&Feed<'_>>,
+    ) -> Result<(), Failure<'p>> {
         let Some(address) = options.control else {
             let server = self.listen_lasting(options, connections)?;
-            server.serve(self.rt, self.rt.alloc(), relay);
+            server.serve(self.rt, self.rt.alloc(), relay, feed);
             return Ok(());
         };
         let control = self.control(address, options.mode)?;
-        let served = self.serve_until_stopped(relay, options, connections, &control, address);
+        let served = self.serve_until_stopped(relay, options, connections, &control, address, feed);
         control.close(self.rt);
         served
     }
 
     // The same, where the server can be asked to stop at that control.
-    fn serve_until_stopped<'p, K: Keeper + Texts + Send, J: Journal + Sync>(
+    fn serve_until_stopped<'p, K: Keeper + Texts + Send, J: Storage + Sync>(
         &self,
         relay: &Relay<K, J>,
         options: ServeOptions<'p>,
         connections: Option<u16>,
         control: &Control<'_>,
         address: Address<'p>,
+        feed: Option<&Feed<'_>>,
     ) -> Result<(), Failure<'p>> {
         let server = self.listen_lasting(options, connections)?;
-        self.show_control(address);
-        let served = server.serve_until_stopped(self.rt, self.rt.alloc(), relay, control);
+        self.show_control(control.address());
+        let served = server.serve_until_stopped(self.rt, self.rt.alloc(), relay, control, feed);
         served.map_err(|fault| not_bound(address, fault))
     }
 
@@ -339,7 +370,7 @@ where
         let address = options.address;
         let bound = LastingServer::bind(self.rt, address, options.mode);
         let server = bound.map_err(|fault| not_bound(address, fault))?;
-        self.show_address(address);
+        self.show_address(server.address());
         let server = server.with_places(options.at_once);
         let server = match connections {
             Some(connections) => server.with_connections(u64::from(connections)),

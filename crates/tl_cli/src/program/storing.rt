@@ -13,7 +13,7 @@ use std::time::Clock;
 use tl_arguments::{Sealing, ServeOptions, StoreFiles};
 use tl_file_journal::{End, StoreOptions, StoreRefusal, Stored};
 use tl_generations::Succession;
-use tl_server::{Journal, Keeper, Texts};
+use tl_server::{Keeper, Storage, Texts};
 use tl_store_commands::Retaken;
 use tl_tree::Tree;
 
@@ -84,7 +84,7 @@ where
     where
         K: Keeper + Texts + Finish + Send + Drop,
         F: FnOnce(Trails, Succession, u32) -> K + Drop,
-        J: Journal + End + Sync + Drop,
+        J: Storage + End + Sync + Drop,
         O: FnOnce(StoreOptions<'_>, Option<Tree>) -> Result<Stored<J>, StoreRefusal> + Drop,
         requires archive { F.IsAlwaysCallable archive }
         requires opens { O.IsAlwaysCallable opens }

@@ -1,6 +1,6 @@
 // The commands `export` and `audit` of a store in volumes.
 
-ghost use Rattle.std.specs.Prelude.{[]};
+ghost use Rattle.std.specs.Prelude.{◌≡◌, []};
 
 use crate::CliFault;
 use crate::failure::Failure;
@@ -23,6 +23,20 @@ struct Volume<'v> {
     /// The list of the folder's sums.
     list: &'v str,
     is_highest: bool,
+}
+
+impl<'v> Volume<'v> {
+    // The volume of that number among these, which rise.
+    fn of(path: &'v str, number: u64, list: &'v str, numbers: &[u64]) -> Volume<'v>
+        ensures { result.number ≡ number }
+    {
+        Volume {
+            path,
+            number,
+            list,
+            is_highest: numbers.last() == Some(&number),
+        }
+    }
 }
 
 /// What the next volume goes on from.
@@ -180,12 +194,7 @@ impl<'a, R: Files + Print + Eprint + AllocGlobal + Clone + Drop> Program<'a, R> 
         let mut passage = Passage::new();
         for number in numbers.iter().copied() {
             let path = self.volume_path(folder, number)?;
-            let volume = Volume {
-                path: path.as_str(),
-                number,
-                list: list.as_str(),
-                is_highest: numbers.last() == Some(&number),
-            };
+            let volume = Volume::of(path.as_str(), number, list.as_str(), numbers);
             let files = PrintedOrders::new(self.rt, alloc);
             let Some((_files, next)) = self.pass_volume(&volume, passage, opens, files)? else {
                 break;
@@ -225,12 +234,7 @@ impl<'a, R: Files + Print + Eprint + AllocGlobal + Clone + Drop> Program<'a, R> 
         let (mut passage, mut epochs, mut count) = (Passage::new(), 0u64, 0u64);
         for number in numbers.iter().copied() {
             let path = self.volume_path(folder, number)?;
-            let volume = Volume {
-                path: path.as_str(),
-                number,
-                list: list.as_str(),
-                is_highest: numbers.last() == Some(&number),
-            };
+            let volume = Volume::of(path.as_str(), number, list.as_str(), numbers);
             let files = FolderFiles::after(self.rt, trails, count);
             let Some((files, next)) = self.pass_volume(&volume, passage, opens, files)? else {
                 break;

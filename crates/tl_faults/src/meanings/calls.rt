@@ -140,7 +140,7 @@ pub fn from_407_to_612(number: u16) -> Option<Meaning> {
             parts: "",
             name: "too many calls",
             when: "4,096 calls of this epoch were admitted",
-            advice: "seal the epoch once all its calls are done, and ask again; a server without `--connections` does so by itself",
+            advice: "seal the epoch once all its calls are done, and ask again; the server (not in session mode) does so by itself",
         }),
         604 => Some(Meaning {
             parts: "",
@@ -152,7 +152,7 @@ pub fn from_407_to_612(number: u16) -> Option<Meaning> {
             parts: "",
             name: "history full",
             when: "there is no room in the epoch for all the events that the call may have",
-            advice: "seal the epoch once all its calls are done, and ask again; a server without `--connections` does so by itself",
+            advice: "seal the epoch once all its calls are done, and ask again; the server (not in session mode) does so by itself",
         }),
         606 => Some(Meaning {
             parts: ", call",

@@ -110,7 +110,7 @@ pub fn from_801_to_990(number: u16) -> Option<Meaning> {
             parts: "",
             name: "too many epochs",
             when: "the last of 256 epochs is the current one, so it isn't sealed",
-            advice: "end the run, and start the next one on the tree that it printed; a server without `--connections` goes on by itself",
+            advice: "end the run, and start the next one on the tree that it printed; the server (not in session mode) goes on by itself",
         }),
         821 => Some(Meaning {
             parts: "",

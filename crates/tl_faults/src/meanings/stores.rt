@@ -118,6 +118,12 @@ pub fn from_1015_to_1090(number: u16) -> Option<Meaning> {
             when: "`audit` or `export` of a store in volumes: the volume isn't the file that SHA256SUMS lists, or doesn't go on where the one before ended",
             advice: "put the file back from a copy: a closed volume never changes",
         }),
+        1021 => Some(Meaning {
+            parts: "",
+            name: "no such position",
+            when: "a follower's position isn't one of the store: that was put back to an earlier copy, is another one, or hasn't the volume any more",
+            advice: "put back the store that was followed; or have the follower begin anew, as a mirror does in another schema",
+        }),
         1023 => Some(Meaning {
             parts: ", epoch",
             name: "no such epoch",

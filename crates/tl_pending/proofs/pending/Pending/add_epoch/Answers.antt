@@ -3,12 +3,11 @@ use Rattle.std.proofs.lemmas.List.{append-nil}
 use Rattle.std.specs.Prelude.{Vec, ℤ}
 use Rattle.std.specs.declared.alloc.Global.{Global}
 use Rattle.tl_ledger.specs.declared.committing.Marks.{Marks}
-use Rattle.tl_news.specs.News.{asked}
 use Rattle.tl_pending.specs.declared.pending.Pending.{Pending}
-use Rattle.tl_pending.specs.Claims.{Learns}
-use Rattle.tl_pending.specs.Pendings.{column, more, added, counted, seal_after, new_form, admitted_from, turn_forms, answer_form, HasSeal}
+use Rattle.tl_pending.specs.Pendings.{column, more, added, counted, seal_after, HasSeal}
 use Rattle.tl_rows.specs.Batches.{Batch}
 use Rattle.tl_rows.specs.Changes.{Leads}
+use Rattle.tl_pending.proofs.EpochLemmas.{of_news, learned}
 use Rattle.tl_pending.proofs.pending.Pending.add_epoch.Goals as goal
 
 pub returns-in_default : goal.returns-in_default
@@ -51,17 +50,10 @@ returns-in_default c =
         seals = sym (append-nil old.news.seals.items) j;
         records = sym (append-nil old.news.records.items) j;
       };
-      of = record {
-        nodes = refl;
-        procedures = procedures.2 ∙ ap (map new_form) c.as_slice-2.ensures.value;
-        calls = calls.2 ∙ (λ j. admitted_from (claims j) (epoch j) came.first_call (map asked (c.as_slice-3.ensures.value j)));
-        turns = turns.2 ∙ (λ j. turn_forms (epoch j) (c.as_slice-4.ensures.value j));
-        replies = replies.2 ∙ (λ j. map (answer_form (epoch j)) (c.as_slice-5.ensures.value j));
-      };
+      of = of_news old.claims.items old.rows.seals came rows epoch claims c.as_slice-2.ensures.value c.as_slice-3.ensures.value c.as_slice-4.ensures.value
+          c.as_slice-5.ensures.value procedures.2 calls.2 turns.2 replies.2 refl;
       seal = subst (λ (o : Option (Vec (List ℤ) Global)). HasSeal (option_map (λ v. v.items) o) (counted came old.rows) rows old new) (sym c.in_default.is) (refl, refl, refl, c.counted-self.ensures);
-      learns = subst (λ e. Learns old.claims.items e came.answers.items old.index c.learn.new.index) number
-          (subst (λ answers. Learns old.claims.items (to_z w64 (of_z w64 c.column-number.result)) answers old.index c.learn.new.index) c.as_slice.ensures.value
-          (subst (λ claimed. Learns claimed (to_z w64 (of_z w64 c.column-number.result)) c.as_slice.result.now old.index c.learn.new.index) claims c.in_ok-learn.ensures));
+      learns = learned old.index c.learn.new.index _ _ _ _ _ _ claims number c.as_slice.ensures.value c.in_ok-learn.ensures;
       before = refl;
       claims = refl;
       mark = refl;
@@ -123,18 +115,11 @@ returns c =
         seals = c.in_ok-push.ensures.items j;
         records = changes.2 j;
       };
-      of = record {
-        nodes = refl;
-        procedures = procedures.2 ∙ ap (map new_form) c.as_slice-2.ensures.value;
-        calls = calls.2 ∙ (λ j. admitted_from (claims j) (epoch j) came.first_call (map asked (c.as_slice-3.ensures.value j)));
-        turns = turns.2 ∙ (λ j. turn_forms (epoch j) (c.as_slice-4.ensures.value j));
-        replies = replies.2 ∙ (λ j. map (answer_form (epoch j)) (c.as_slice-5.ensures.value j));
-      };
+      of = of_news old.claims.items old.rows.seals came rows epoch claims c.as_slice-2.ensures.value c.as_slice-3.ensures.value c.as_slice-4.ensures.value
+          c.as_slice-5.ensures.value procedures.2 calls.2 turns.2 replies.2 refl;
       seal = subst (λ (o : Option (Vec (List ℤ) Global)). HasSeal (option_map (λ v. v.items) o) (counted came old.rows) rows old new) (sym c.in-Some.is)
           (ap (λ s. s ∷ []) (c.seal_after.ensures ∙ ap seal_after counts), leads, refl, marked);
-      learns = subst (λ e. Learns old.claims.items e came.answers.items old.index c.learn.new.index) number
-          (subst (λ answers. Learns old.claims.items (to_z w64 (of_z w64 c.column-number.result)) answers old.index c.learn.new.index) c.as_slice.ensures.value
-          (subst (λ claimed. Learns claimed (to_z w64 (of_z w64 c.column-number.result)) c.as_slice.result.now old.index c.learn.new.index) claims c.in_ok-learn.ensures));
+      learns = learned old.index c.learn.new.index _ _ _ _ _ _ claims number c.as_slice.ensures.value c.in_ok-learn.ensures;
       before = refl;
       claims = refl;
       mark = refl;
