@@ -2,3 +2,9 @@ mod ReadLemmas
 mod QuietLemmas
 mod DifferingLemmas
 mod TrailLemmas
+mod NewLemmas
+mod EndLemmas
+mod NamesLemmas
+mod RowsLemmas
+mod CoreLemmas
+mod HistoryLemmas

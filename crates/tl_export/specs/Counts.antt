@@ -35,3 +35,12 @@ pub record AreInOrder (first last : Counts) : Type 0 where
   pub calls : first.calls ≤ last.calls
   pub turns : first.turns ≤ last.turns
   pub replies : first.replies ≤ last.replies
+
+-- epoch n has counts: those at its beginning aren't above those at its end, and these not above what there is
+pub record HasCounts (seals : List SealRow) (m : Marks) (n : ℕ) : Type 0 where
+  pub first : Counts
+  pub last : Counts
+  pub beginning : AreAtBeginning seals m n first
+  pub end : AreAtEnd seals m n last
+  pub order : AreInOrder first last
+  pub inside : AreInOrder last (all_rows m)

@@ -1,7 +1,8 @@
 // How many rows there were at the beginning and at the end of an epoch.
 
-ghost use Rattle.std.specs.Prelude.{◌≡◌, IsTrue, IfSome};
-ghost use Rattle.tl_export.specs.Counts.{no_rows, all_rows, IsCounted, AreAtEnd, AreAtBeginning, AreInOrder};
+ghost use Rattle.std.specs.Prelude.{◌≡◌, ◌↔◌, IsTrue, IsSome, IfSome};
+ghost use Rattle.tl_export.specs.declared.counts.Counts.{Counts as Numbers};
+ghost use Rattle.tl_export.specs.Counts.{no_rows, all_rows, IsCounted, AreAtEnd, AreAtBeginning, AreInOrder, HasCounts};
 
 use tl_ledger::{Marks, SealRow};
 
@@ -40,7 +41,8 @@ fn all_counts(marks: &Marks) -> Counts
 
 // As many as a seal counts. None if a number is below 0.
 fn sealed_counts(seal: &SealRow) -> Option<Counts>
-    ensures { IfSome result (λ n. IsCounted seal.now n) }
+    ensures counted { IfSome result (λ n. IsCounted seal.now n) }
+    ensures again { (n : Numbers) → IsCounted seal.now n → IsSome result }
 {
     Some(Counts {
         procedures: u64::try_from(seal.procedures).ok()?,
@@ -52,7 +54,8 @@ fn sealed_counts(seal: &SealRow) -> Option<Counts>
 
 // At the end of an epoch. None if a seal's number is below 0.
 fn counts_at_end(seals: &[SealRow], marks: &Marks, epoch: usize) -> Option<Counts>
-    ensures { IfSome result (λ n. AreAtEnd seals.now marks.now epoch n) }
+    ensures end { IfSome result (λ n. AreAtEnd seals.now marks.now epoch n) }
+    ensures again { (n : Numbers) → AreAtEnd seals.now marks.now epoch n → IsSome result }
 {
     match seals.get(epoch) {
         Some(seal) => sealed_counts(seal),
@@ -62,7 +65,8 @@ fn counts_at_end(seals: &[SealRow], marks: &Marks, epoch: usize) -> Option<Count
 
 // At the beginning of an epoch.
 fn counts_at_beginning(seals: &[SealRow], marks: &Marks, epoch: usize) -> Option<Counts>
-    ensures { IfSome result (λ n. AreAtBeginning seals.now marks.now epoch n) }
+    ensures beginning { IfSome result (λ n. AreAtBeginning seals.now marks.now epoch n) }
+    ensures again { (n : Numbers) → AreAtBeginning seals.now marks.now epoch n → IsSome result }
 {
     if epoch == 0 {
         return Some(no_counts());
@@ -72,7 +76,7 @@ fn counts_at_beginning(seals: &[SealRow], marks: &Marks, epoch: usize) -> Option
 
 // Whether no count has become less.
 fn are_in_order(first: &Counts, last: &Counts) -> bool
-    ensures { IsTrue result → AreInOrder first.now last.now }
+    ensures { IsTrue result ↔ AreInOrder first.now last.now }
 {
     first.procedures <= last.procedures
         && first.calls <= last.calls
@@ -87,6 +91,7 @@ pub(crate) fn counts_of(seals: &[SealRow], marks: &Marks, epoch: usize) -> Optio
     ensures end { IfSome result (λ n. AreAtEnd seals.now marks.now epoch n.1) }
     ensures order { IfSome result (λ n. AreInOrder n.0 n.1) }
     ensures inside { IfSome result (λ n. AreInOrder n.1 (all_rows marks.now)) }
+    ensures again { HasCounts seals.now marks.now epoch → IsSome result }
 {
     let first = counts_at_beginning(seals, marks, epoch)?;
     let last = counts_at_end(seals, marks, epoch)?;

@@ -3,6 +3,7 @@
 ghost use Rattle.std.specs.Prelude.{◌≡◌};
 ghost use Rattle.tl_store.specs.declared.fault.StoreFault.TheVariants as store;
 ghost use Rattle.tl_export.specs.declared.fault.ExportFault.TheVariants.{Store};
+ghost use Rattle.tl_export.specs.Faults.{IsOfReading};
 
 use arrayvec::ArrayVec;
 use std::alloc::{AllocError, AllocFailed};
@@ -54,12 +55,16 @@ impl ExportFault {
 }
 
 impl From<StoreFault> for ExportFault {
+    ghost from_gives = { λ fault e. e ≡ Store fault };
+
     fn from(fault: StoreFault) -> ExportFault {
         ExportFault::Store(fault)
     }
 }
 
 impl From<ReadFault> for ExportFault {
+    ghost from_gives = { λ fault e. IsOfReading fault e };
+
     fn from(fault: ReadFault) -> ExportFault {
         ExportFault::Store(StoreFault::from(fault))
     }

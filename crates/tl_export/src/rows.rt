@@ -1,9 +1,11 @@
 // The rows of an epoch.
 
-ghost use Rattle.std.specs.Prelude.{◌≡◌, ◌≤◌, length, IfOk, OnOk};
+ghost use Rattle.std.specs.Prelude.{◌≡◌, ◌≤◌, length, IfOk, IfErr, OnOk};
 ghost use Rattle.sqlite_trees.specs.View.{IsClean, IsQuiet, KeepsSchema};
 ghost use Rattle.tl_ledger.specs.Contents.{OnlyReads, Contents, Holds, AreTables};
-ghost use Rattle.tl_export.specs.Plans.{IsPlanOf};
+ghost use Rattle.tl_export.specs.Counts.{HasCounts};
+ghost use Rattle.tl_export.specs.Faults.{IsDiskOrMemory};
+ghost use Rattle.tl_export.specs.Plans.{IsPlanOf, CanBeExported};
 ghost use Rattle.tl_export.specs.Epochs.{is_by, nodes_at, nodes_of, AreRowsOf};
 
 use crate::counts::counts_of;
@@ -37,7 +39,8 @@ pub(crate) fn count_nodes(nodes: &[NodeRow], epoch: usize) -> usize
     nodes.len()
 }
 
-/// The rows that make an epoch again, whose nodes have these records at its beginning.
+/// The rows that make an epoch again, whose nodes have these records at its beginning. Faults as of `read_stored`; none but of the disk or memory, where all tables can be
+/// read and the seals' counts are in order.
 pub fn rows_of<S: Store>(
     alloc: Global,
     store: &mut S,
@@ -48,6 +51,9 @@ pub fn rows_of<S: Store>(
     requires { IsClean (S.Store.view store.old) → AreTables (S.Store.view store.old) }
     ensures rows { IfOk result (λ s. IsClean (S.Store.view store.new) → (c : Contents) → Holds (S.Store.view store.old).trees c → IsPlanOf c plan.now
         → AreRowsOf c plan.now epoch s) }
+    ensures again { IfErr result (λ e. IsClean (S.Store.view store.new) → (c : Contents) → Holds (S.Store.view store.old).trees c → IsPlanOf c plan.now
+        → CanBeExported c
+        → HasCounts plan.now.seals.items plan.now.marks epoch → IsDiskOrMemory e) }
     ensures nodes { IfOk result (λ s. s.nodes.items ≡ nodes_of plan.now epoch) }
     ensures records { IfOk result (λ s. s.records ≡ records) }
     ensures reads { OnOk result (IsClean (S.Store.view store.new) → OnlyReads (S.Store.view store.old) (S.Store.view store.new)) }

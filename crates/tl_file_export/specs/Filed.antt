@@ -1,7 +1,11 @@
 -- Trails in files one after another.
 use Rattle.std.specs.Prelude.{◌≡◌, ◌≤◌, ◌<◌, ℕ, List, [], ◌∷◌, ◌++◌, length, Option, Some, None}
 use Rattle.tl_audit.specs.Chains.{AreCleanFiles, trails_of}
-use Rattle.tl_export.specs.Exported.{AreTrailsOf}
+use Rattle.tl_core.specs.Cores.{CoreValue}
+use Rattle.tl_core.specs.Reached.{IsReached}
+use Rattle.tl_tree.specs.Trees.{TreeValue}
+use Rattle.tl_store_history.specs.History.{PastEpoch, HasHistory}
+use Rattle.tl_export.specs.Exported.{AreTrailsOf, AreOfHistory}
 use Rattle.tl_file_export.specs.declared.splitting.Ending.{Ending}
 use Rattle.tl_ledger.specs.Contents.{Contents}
 use Rattle.tl_procedures.specs.Names.{BeginsWith}
@@ -81,7 +85,8 @@ AreKept has last count trails = (files : FileList) × has files × AreSplit last
 abbrev pub AreSoMany : ℕ → ℕ → FileList → Type 0
 AreSoMany count trails files = (length files ≡ count) × (length (trails_of files) ≡ trails)
 
--- All trails of a store are in the files, where the store is clean: whatever its tables hold, they are the trails of that. An auditor finds the files
--- clean, and that each continues the one before.
+-- All trails of a store are in the files, where the store is clean: whatever its tables hold, they are the trails of that, and of its history where it has one. An auditor
+-- finds the files clean, and that each continues the one before.
 abbrev pub HasExported : (FileList → Type 0) → Type 0 → (Contents → Type 0) → Type 0
 HasExported has clean holds = (files : FileList) × has files × AreInFiles files × AreCleanFiles None files × (clean → (c : Contents) → holds c → AreTrailsOf c (trails_of files))
+    × (clean → (c : Contents) (t : TreeValue) (es : List PastEpoch) (v : CoreValue) → holds c → HasHistory c t es v → IsReached v → AreOfHistory es v (trails_of files))

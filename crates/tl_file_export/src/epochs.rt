@@ -1,9 +1,14 @@
 // The epochs of a store in a file.
 
-ghost use Rattle.std.specs.Prelude.{[], IfOk};
+ghost use Rattle.std.specs.Prelude.{[], List, ◌⊎◌, IfOk, IfErr};
 ghost use Rattle.sqlite_store.specs.FileStore.{view};
 ghost use Rattle.sqlite_trees.specs.View.{IsClean};
+ghost use Rattle.tl_core.specs.Cores.{CoreValue};
+ghost use Rattle.tl_core.specs.Reached.{IsReached};
+ghost use Rattle.tl_export.specs.Faults.{IsDiskOrMemory};
 ghost use Rattle.tl_file_export.specs.Filed.{HasExported};
+ghost use Rattle.tl_store_history.specs.History.{PastEpoch, HasHistory, IsOfSize};
+ghost use Rattle.tl_tree.specs.Trees.{TreeValue};
 ghost use Rattle.tl_ledger.specs.Contents.{Contents, AreTables};
 
 use crate::exporting::export_files;
@@ -24,7 +29,10 @@ pub trait Epochs {
     /// Takes all epochs again, and puts their trails into files, as `export_files` does.
     fn export<F: TrailFiles + Drop>(&mut self, alloc: Global, files: F) -> Result<F, ExportFault>
         requires { F.files files [] }
-        ensures { IfOk result (λ kept. HasExported (F.files kept) (is_clean self.new) (holds self.old)) };
+        ensures trails { IfOk result (λ kept. HasExported (F.files kept) (is_clean self.new) (holds self.old)) }
+        ensures again { IfErr result (λ e. is_clean self.new → (c : Contents) (t : TreeValue) (es : List PastEpoch) (v : CoreValue) → holds self.old c
+            → HasHistory c t es v → IsReached v
+            → IsOfSize c t v → IsDiskOrMemory e ⊎ F.refuses e) };
 }
 
 /// The epochs of a store in a file. As a type of its own it hides the types of the file: what exports is proved without them.

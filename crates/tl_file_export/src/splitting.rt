@@ -76,9 +76,13 @@ impl<F: TrailFiles> Splitting<F> {
 }
 
 impl<F: TrailFiles> TrailTaker for Splitting<F> {
+    ghost use Rattle.std.specs.Prelude.{◌⊎◌};
+    ghost use Rattle.tl_export.specs.Faults.{IsDiskOrMemory};
     ghost use Rattle.tl_file_export.specs.Filed.{AreKept};
 
     ghost taken = { λ s. AreKept (F.files s.kept) s.last s.count };
+
+    ghost refuses = { λ e. IsDiskOrMemory e ⊎ F.refuses e };
 
     fn take(&mut self, alloc: Global, trail: &Trail, order: &Order) -> Result<(), ExportFault> {
         let ending = Ending::of(alloc, trail)?;

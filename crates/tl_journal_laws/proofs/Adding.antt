@@ -1,11 +1,12 @@
 -- The rows of the news of an epoch.
-use Rattle.std.proofs.Common.{◌≡◌, ℕ, zero, suc, ◌+◌, ◌-◌, ◌<◌, ◌^◌, min, ℤ, pos, Bool, true, List, [], ◌∷◌, ◌++◌, length, map, drop, get_or, reverse, refl, sym, ap, ◌∙◌, subst, arith, Option, Some, slice_get, option_map}
-use Rattle.std.specs.Prelude.{All}
+use Rattle.std.proofs.Common.{◌≡◌, ◌⊎◌, inl, inr, ℕ, zero, suc, ◌+◌, ◌-◌, ◌<◌, ◌^◌, ◌==◌, ◌||◌, min, ℤ, pos, Bool, true, false, List, [], ◌∷◌, ◌++◌, length, map, drop, get_or, reverse, refl, sym, ap, ◌∙◌, subst, arith, Option, Some, slice_get, option_map}
+use Rattle.std.specs.Prelude.{All, Any}
+use Rattle.std.proofs.lemmas.Bool.{false≢true}
 use Rattle.std.specs.List.{flat_map, filter_map}
 use Rattle.std.proofs.lemmas.List.{append-nil, length-map, map-append, length-drop, length-reverse, reverse-append}
 use Rattle.indexmap.proofs.ReorderLemmas.{map-reverse}
 use Rattle.std.proofs.lemmas.List.Elements.{All-nil, All-cons, All-head, All-tail, All-same}
-use Rattle.std.proofs.lemmas.Option.{slice_get_within, slice_get-map, get_or_from_slice_get}
+use Rattle.std.proofs.lemmas.Option.{slice_get_within, slice_get-map, slice_get-get_or, get_or_from_slice_get}
 use Rattle.std.proofs.lemmas.Grind.{flat_map-append}
 use Rattle.tl_tree_locking.specs.declared.event.Event.{Event}
 use Rattle.tl_tree_locking.specs.declared.event.Event.TheVariants.{Admit, Lock, Free, Done}
@@ -25,7 +26,9 @@ use Rattle.tl_ledger.specs.declared.rows.TurnRow.{TurnRow}
 use Rattle.tl_ledger.specs.declared.rows.ReplyRow.{ReplyRow}
 use Rattle.tl_rows.specs.Rows.{procedure_form, named_form, call_bytes, turn_bytes, all_turn_bytes, IsTurnRow}
 use Rattle.tl_rows.specs.Rows.{turn_form, reply_form}
+use Rattle.tl_store.specs.Closing.{HasReply}
 use Rattle.tl_store.specs.Recovered.{IsReplyOf}
+use Rattle.tl_store_history.specs.History.{AreReplied}
 use Rattle.tl_pending.specs.Claims.{ClaimValue}
 use Rattle.tl_pending.specs.Pendings.{column, Admitted, admitted_in, admitted_at, admitted_from, turn_forms, answer_form, new_form, AreOfNews}
 use Rattle.tl_recover.specs.Later.{Later}
@@ -183,6 +186,71 @@ answers_right w owners epoch (Done c ∷ events) ends =
     (record { epoch_is = refl; call = c; call_is = refl; known = here.0; done = here.1; reply = refl })
     (answers_right w owners epoch events (All-tail (IsEnd w) (Done c) events ends))
 
+-- ---- each call that ended has an answer
+
+or_behind : (a b c : Bool) → (a || (b || c)) ≡ ((a || b) || c)
+or_behind true b c = refl
+or_behind false b c = refl
+
+or_around : (a b : Bool) → (a || (b || false)) ≡ (b || a)
+or_around true true = refl
+or_around true false = refl
+or_around false true = refl
+or_around false false = refl
+
+or_none : (a : Bool) → (a || false) ≡ a
+or_none true = refl
+or_none false = refl
+
+done_join : (c : ℕ) (xs ys : List Event) → is_done c (xs ++ ys) ≡ (is_done c xs || is_done c ys)
+done_join c [] ys = refl
+done_join c (Admit d ∷ xs) ys = done_join c xs ys
+done_join c (Lock x d found ∷ xs) ys = done_join c xs ys
+done_join c (Free x d left ∷ xs) ys = done_join c xs ys
+done_join c (Done d ∷ xs) ys = ap (λ b. (d == c) || b) (done_join c xs ys) ∙ or_behind (d == c) (is_done c xs) (is_done c ys)
+
+done_last : (c : ℕ) (x : Event) (xs : List Event) → (is_done c xs || is_done c (x ∷ [])) ≡ is_done c (x ∷ xs)
+done_last c (Admit d) xs = or_none (is_done c xs)
+done_last c (Lock x d found) xs = or_none (is_done c xs)
+done_last c (Free x d left) xs = or_none (is_done c xs)
+done_last c (Done d) xs = or_around (is_done c xs) (d == c)
+
+done_reverse : (c : ℕ) (xs : List Event) → is_done c (reverse xs) ≡ is_done c xs
+done_reverse c [] = refl
+done_reverse c (x ∷ xs) =
+    ap (is_done c) (reverse-append (x ∷ []) xs) ∙ done_join c (reverse xs) (x ∷ []) ∙ ap (λ b. b || is_done c (x ∷ [])) (done_reverse c xs) ∙ done_last c x xs
+
+either : (a b : Bool) → (a || b) ≡ true → (a ≡ true) ⊎ (b ≡ true)
+either true b is = inl refl
+either false b is = inr is
+
+-- a form of these is that of a reply of the call
+abbrev pub HasForm : List ((ℤ × ℤ) × Option (List ℤ)) → ℕ → Type 0
+HasForm forms c = Any (λ f. f.0.1 ≡ pos c) forms
+
+form_behind : (f : (ℤ × ℤ) × Option (List ℤ)) (forms : List ((ℤ × ℤ) × Option (List ℤ))) (c : ℕ) → HasForm forms c → HasForm (f ∷ forms) c
+form_behind f forms c found = (suc found.0, found.1, omega (arith, found.2), found.3, found.4)
+
+answered : (w : CoreValue) (owners : List ℕ) (epoch : ℤ) (events : List Event) (c : ℕ) → is_done c events ≡ true → HasForm (map (answer_form epoch) (filter_map (answer_at w owners) events)) c
+answered w owners epoch [] c over = absurd (false≢true over)
+answered w owners epoch (Admit d ∷ events) c over = answered w owners epoch events c over
+answered w owners epoch (Lock x d found ∷ events) c over = answered w owners epoch events c over
+answered w owners epoch (Free x d left ∷ events) c over = answered w owners epoch events c over
+answered w owners epoch (Done d ∷ events) c over =
+    let own : (ℤ × ℤ) × Option (List ℤ) = answer_form epoch (record { call = d; session = get_or owners d 0; reply = reply_of (world_of w) d }) in
+    let others = map (answer_form epoch) (filter_map (answer_at w owners) events) in
+    elim (either (d == c) (is_done c events) over) [
+      | inl here ↦ (let same : d ≡ c = grind (arith, here) in (0, own, omega arith, refl, ap pos same))
+      | inr later ↦ form_behind own others c (answered w owners epoch events c later)
+    ]
+
+row_of_form : (rows : List ReplyRow) (c : ℕ) → HasForm (map reply_form rows) c → HasReply rows c
+row_of_form rows c found =
+    let inside : found.0 < length rows = (let l = length-map rows reply_form in omega (arith, found.2, l)) in
+    let at = slice_get-get_or (map reply_form rows) found.0 found.1 found.2 ∙ ap Some found.3 in
+    let row = at_mapped reply_form rows found.0 found.1 at in
+    (found.0, row.0, inside, get_or_from_slice_get rows found.0 row.0 row.0 row.1, ap (λ f. f.0.1) row.2 ∙ found.4)
+
 module _ (v w : CoreValue) (number : ℕ) (owners : List ℕ) (over : Bool) (came : EpochNews) (claims : List ClaimValue) (epoch : ℕ) (b : Batch) (later : Later v w) (reached : IsReached w)
     (each : length owners ≡ length w.calls) (small : epoch < 2 ^ 62) (accepted : AreAccepted (map named came.procedures.items))
     (is : news_value came ≡ news_behind (end_of v) number w owners over) (of : AreOfNews claims epoch came b) where
@@ -308,3 +376,14 @@ module _ (v w : CoreValue) (number : ℕ) (owners : List ℕ) (over : Bool) (cam
     turns = turns_now;
     replies = replies_now;
   }
+
+  -- each call that ended since has its reply
+  pub replied_now : AreReplied v w b.replies
+  replied_now call over' = elim (either (is_done call later.past.0) (is_done call v.past) (sym (done_join call later.past.0 v.past) ∙ ap (is_done call) (sym later.past.1) ∙ over')) [
+    | inl new ↦
+        let ended : is_done call (events_from (length v.past) w) ≡ true = ap (is_done call) later_events ∙ done_reverse call later.past.0 ∙ new in
+        let forms = answered w owners e (events_from (length v.past) w) call ended in
+        let there : map (answer_form e) (filter_map (answer_at w owners) (events_from (length v.past) w)) ≡ map reply_form b.replies = ap (map (answer_form e)) (sym answers_are) ∙ sym of.replies in
+        inr (row_of_form b.replies call (subst (λ l. HasForm l call) there forms))
+    | inr was ↦ inl was
+  ]

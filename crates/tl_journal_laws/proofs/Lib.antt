@@ -5,3 +5,4 @@ mod Through
 mod Resting
 mod Replaced
 mod Widened
+mod Behind

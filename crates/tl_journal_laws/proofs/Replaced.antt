@@ -18,6 +18,10 @@ use Rattle.tl_pending.specs.Pendings.{Replaces}
 use Rattle.tl_store_laws.specs.Growing.{IsLedgerOf, IsReplacingNewsOf}
 use Rattle.tl_store_laws.proofs.Replace.{ledger_replaces}
 use Rattle.tl_store_laws.proofs.Again.{ledger_joined, marked_joined}
+use Rattle.tl_tree.specs.Trees.{TreeValue}
+use Rattle.tl_store_history.specs.History.{PastEpoch, HasHistory}
+use Rattle.tl_store_history.proofs.Whole.{history_joined}
+use Rattle.tl_store_history.proofs.Starts.{history_replaces}
 use Rattle.tl_journal_laws.specs.Unstored.{IsPendingOf}
 use Rattle.tl_journal_laws.proofs.Resting.{longer}
 
@@ -83,3 +87,7 @@ module _ (c : Contents) (v : CoreValue) (others : List Named) (old new : Pending
     records = ap (λ (p : Pending). p.records.items) replaces.rest ∙ pending.records;
     inside = subst (λ (n : News). All (λ (x : ChangedRecord). x.node < length (c RECORD ++ map new_columns n.nodes.items)) n.records.items) (sym replaces.news) pending.inside;
   }
+
+  pub replaced_history : (t : TreeValue) (es : List PastEpoch) → HasHistory before t es v → HasHistory (after_batch c (batch_of new.news)) t es next
+  replaced_history t es h = subst (λ x. HasHistory (after_batch c x) t es next) (sym whole)
+      (history_joined c (batch_of old.news) b t es next pending.inside (history_replaces before b t es v others h none fresh news))

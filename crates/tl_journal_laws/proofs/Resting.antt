@@ -16,7 +16,7 @@ use Rattle.tl_store_laws.specs.Growing.{IsLedgerOf}
 use Rattle.tl_store_laws.proofs.Again.{AreSame, ledger_again}
 use Rattle.tl_journal_laws.specs.Unstored.{IsPendingOf}
 
-same_without_news : (c : Contents) (n : News) → IsEmpty n → AreSame c (after_batch c (batch_of n))
+pub same_without_news : (c : Contents) (n : News) → IsEmpty n → AreSame c (after_batch c (batch_of n))
 same_without_news c n empty = record {
   nodes = ap (λ l. c NODE ++ map node_columns l) empty.nodes ∙ append-nil (c NODE);
   records = ap₂ (λ l changes. with_changes (c RECORD ++ map new_columns l) changes) empty.nodes empty.records ∙ append-nil (c RECORD);

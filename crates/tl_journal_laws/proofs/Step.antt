@@ -1,10 +1,11 @@
 -- The pending rows, one epoch further.
-use Rattle.std.proofs.Common.{◌≡◌, ℕ, ◌+◌, ◌-◌, ◌<◌, ◌^◌, min, pos, Bool, true, false, List, [], ◌∷◌, ◌++◌, length, map, sym, ap, ◌∙◌, subst, arith, Option, Some, None, option_map}
+use Rattle.std.proofs.Common.{◌≡◌, ℕ, ◌+◌, ◌-◌, ◌<◌, ◌^◌, min, pos, Bool, true, false, List, [], ◌∷◌, ◌++◌, length, map, refl, sym, ap, ◌∙◌, subst, arith, Option, Some, None, option_map}
 use Rattle.std.specs.Prelude.{All}
 use Rattle.std.proofs.lemmas.List.{append-nil, length-append, length-map}
 use Rattle.std.proofs.lemmas.List.Elements.{All-append, All-nil}
 use Rattle.tl_tree.specs.Records.{Records}
-use Rattle.tl_tree_locking.specs.History.{records_now}
+use Rattle.tl_tree.specs.Trees.{TreeValue}
+use Rattle.tl_tree_locking.specs.History.{AllDone, records_now}
 use Rattle.tl_tree_locking.proofs.Records.{length-records_now}
 use Rattle.tl_core.specs.Cores.{CoreValue, opened_after}
 use Rattle.tl_core.specs.Reached.{IsReached}
@@ -19,7 +20,7 @@ use Rattle.tl_rows.specs.Rows.{fields_in}
 use Rattle.tl_ledger.specs.News.{IsMarked, node_columns, new_columns, record_columns, procedure_columns, call_columns, turn_columns, reply_columns, seal_columns}
 use Rattle.tl_rows.specs.Changes.{Leads}
 use Rattle.tl_pending.specs.declared.pending.Pending.{Pending}
-use Rattle.tl_pending.specs.Pendings.{column, more, counted, seal_after, HasSeal, Adds}
+use Rattle.tl_pending.specs.Pendings.{column, more, counted, seal_after, HasSeal, AreOfNews, Adds}
 use Rattle.tl_recover.specs.Later.{Later}
 use Rattle.tl_rows.specs.Batches.{Batch, batch_of, after_batch}
 use Rattle.tl_store_laws.specs.Growing.{IsLedgerOf, IsNewsOf, IsSealOf, IsLastNewsOf}
@@ -27,8 +28,10 @@ use Rattle.tl_store_laws.proofs.Grow.{ledger_grows}
 use Rattle.tl_store_laws.proofs.Seal.{ledger_seals}
 use Rattle.tl_store_laws.proofs.Leading.{changes_long}
 use Rattle.tl_store_laws.proofs.Again.{ledger_joined, marked_joined}
+use Rattle.tl_store_history.specs.History.{PastEpoch, HasHistory, EndsEpoch}
+use Rattle.tl_store_history.proofs.Whole.{history_grows, history_seals, history_joined}
 use Rattle.tl_journal_laws.specs.Unstored.{AreFew, IsPendingOf}
-use Rattle.tl_journal_laws.proofs.Adding.{news_now, procedures_now, new_now, count_procedures, count_calls, count_turns, count_replies}
+use Rattle.tl_journal_laws.proofs.Adding.{news_now, procedures_now, new_now, count_procedures, count_calls, count_turns, count_replies, replied_now}
 
 longer : {A B : Type 0} (f : A → B) (before : List B) (xs : List A) (n k m : ℕ) → length before ≡ n → length xs ≡ k → n + k ≡ m → length (before ++ map f xs) ≡ m
 longer f before xs n k m b x s =
@@ -205,6 +208,19 @@ module _ (c : Contents) (v w : CoreValue) (number : ℕ) (owners : List ℕ) (ca
       sealed = seal_is;
     }
 
+    abbrev bare : Batch
+    bare = record b { seals = []; records = [] }
+
+    of_bare : AreOfNews old.claims.items old.rows.seals came bare
+    of_bare = record { nodes = appends.of.nodes; procedures = appends.of.procedures; calls = appends.of.calls; turns = appends.of.turns; replies = appends.of.replies }
+
+    pub ends_epoch : EndsEpoch before v w b
+    ends_epoch = record {
+      news = subst (λ e. IsNewsOf e v w bare) (sym seals_are) (news_now v w number owners true came old.claims.items old.rows.seals bare later reached each small accepted is of_bare refl refl);
+      replied = replied_now v w number owners true came old.claims.items old.rows.seals b later reached each small accepted is appends.of;
+      seal = seal_is;
+    }
+
     marked_closed : IsMarked twice new.rows
     marked_closed =
         let rows = has_seal.3 in
@@ -230,3 +246,16 @@ module _ (c : Contents) (v w : CoreValue) (number : ℕ) (owners : List ℕ) (ca
       records = has_seal.2;
       inside = inside_all changed_inside;
     }
+
+  -- ---- with the history
+
+  history_all : (t : TreeValue) (es : List PastEpoch) (next : CoreValue) → HasHistory twice t es next → HasHistory (after_batch c (batch_of new.news)) t es next
+  history_all t es next there = subst (λ x. HasHistory (after_batch c x) t es next) (sym appends.all) (history_joined c (batch_of old.news) b t es next pending.inside there)
+
+  pub history_open : (t : TreeValue) (es : List PastEpoch) (is : news_value came ≡ news_behind (end_of v) number w owners false) → HasHistory before t es v → HasHistory (after_batch c (batch_of new.news)) t es w
+  history_open t es is h = history_all t es w
+      (history_grows before b t es v w h later reached (news is) (replied_now v w number owners false came old.claims.items old.rows.seals b later reached each small accepted is appends.of))
+
+  pub history_over : (t : TreeValue) (es : List PastEpoch) (is : news_value came ≡ news_behind (end_of v) number w owners true) → AllDone w.past → (h : HasHistory before t es v)
+      → HasHistory (after_batch c (batch_of new.news)) t (es ++ record { added = h.added; core = w } ∷ []) (opened_after w).seen
+  history_over t es is done h = history_all t (es ++ record { added = h.added; core = w } ∷ []) (opened_after w).seen (history_seals before b t es v w h later reached done (ends_epoch is))

@@ -16,7 +16,7 @@ use Rattle.tl_recover.specs.Later.{ask_of, Later}
 use Rattle.tl_journal_laws.specs.Unstored.{AreFew, IsPendingOf, AreLater, core_after}
 use Rattle.tl_journal_laws.proofs.Step.{few_counted, goes_on, goes_over}
 
-heads : (x y : NewsValue) (xs ys : List NewsValue) → x ∷ xs ≡ y ∷ ys → (x ≡ y) × (xs ≡ ys)
+pub heads : (x y : NewsValue) (xs ys : List NewsValue) → x ∷ xs ≡ y ∷ ys → (x ≡ y) × (xs ≡ ys)
 heads x y xs ys same = (let h : x ≡ y = cc in h, let t : xs ≡ ys = cc in t)
 
 -- there were no more rows before
@@ -30,7 +30,7 @@ few_before came old new adds few =
       seals = enough.seals;
     }
 
-few_before_all : (epochs : List EpochNews) (old new : Pending) → AddsAll epochs old new → AreFew new.rows → AreFew old.rows
+pub few_before_all : (epochs : List EpochNews) (old new : Pending) → AddsAll epochs old new → AreFew new.rows → AreFew old.rows
 few_before_all [] old new same few = subst (λ (p : Pending). AreFew p.rows) same few
 few_before_all (came ∷ epochs) old new adds few = few_before came old adds.0 adds.1 (few_before_all epochs adds.0 new adds.2 few)
 

@@ -1,12 +1,14 @@
 -- What is pending where nodes were appended between two epochs.
-use Rattle.std.proofs.Common.{◌≡◌, ℕ, ◌<◌, ◌^◌, ℤ, pos, List, [], ◌∷◌, ◌++◌, length, map, replicate, refl, sym, ap, ap₂, ◌∙◌, subst, arith}
+use Rattle.std.proofs.Common.{◌≡◌, ℕ, ◌-◌, ◌<◌, ◌^◌, min, ℤ, pos, List, [], ◌∷◌, ◌++◌, length, map, replicate, refl, sym, ap, ap₂, ◌∙◌, subst, arith}
 use Rattle.std.specs.Prelude.{All}
 use Rattle.std.proofs.lemmas.List.{append-nil, length-append, length-map}
+use Rattle.std.proofs.lemmas.List.Elements.{All-nil, All-cons}
 use Rattle.tl_width.specs.Fields.{field_count}
 use Rattle.tl_core.specs.Cores.{CoreValue}
 use Rattle.tl_ledger.specs.declared.news.News.{News}
 use Rattle.tl_ledger.specs.declared.committing.Marks.{Marks}
 use Rattle.tl_ledger.specs.declared.rows.ChangedRecord.{ChangedRecord}
+use Rattle.tl_ledger.specs.declared.rows.NodeRow.{NodeRow}
 use Rattle.tl_ledger.specs.declared.schema.TheConstants.{NODE, RECORD, PROCEDURE, CALL, TURN, REPLY, SEAL}
 use Rattle.tl_ledger.specs.Contents.{Contents}
 use Rattle.tl_ledger.specs.News.{IsMarked, node_columns, new_columns}
@@ -17,12 +19,21 @@ use Rattle.tl_pending.specs.Pendings.{column, node_of, Grows}
 use Rattle.tl_store_laws.specs.Growing.{IsLedgerOf, IsWideningNewsOf, widened}
 use Rattle.tl_store_laws.proofs.Widen.{ledger_widens}
 use Rattle.tl_store_laws.proofs.Again.{ledger_joined, marked_joined}
+use Rattle.tl_tree.specs.Trees.{TreeValue}
+use Rattle.tl_store_history.specs.History.{PastEpoch, HasHistory}
+use Rattle.tl_store_history.proofs.Whole.{history_joined}
+use Rattle.tl_store_history.specs.Sealed.{IsOf}
+use Rattle.tl_store_history.proofs.Starts.{history_widens}
 use Rattle.tl_journal_laws.specs.Unstored.{IsPendingOf}
 use Rattle.tl_journal_laws.proofs.Resting.{longer}
 
 parents_of : (epoch : ℤ) (parents : List ℤ) → map parent_in (map (node_of epoch) parents) ≡ parents
 parents_of epoch [] = refl
 parents_of epoch (p ∷ parents) = ap (λ l. p ∷ l) (parents_of epoch parents)
+
+of_epoch : (epoch : ℤ) (parents : List ℤ) → All (λ (r : NodeRow). r.epoch ≡ epoch) (map (node_of epoch) parents)
+of_epoch epoch [] = All-nil _
+of_epoch epoch (p ∷ parents) = All-cons (λ (r : NodeRow). r.epoch ≡ epoch) (node_of epoch p) (map (node_of epoch) parents) refl (of_epoch epoch parents)
 
 module _ (c : Contents) (v : CoreValue) (added : List ℕ) (old new : Pending) (pending : IsPendingOf c old v) (none : v.calls ≡ []) (grows : Grows (map pos added) old new) (few : new.rows.nodes < 2 ^ 62) where
   abbrev before : Contents
@@ -94,3 +105,11 @@ module _ (c : Contents) (v : CoreValue) (added : List ℕ) (old new : Pending) (
     records = grows.records ∙ ap₂ (λ l n. l ++ replicate n (replicate field_count (pos 0))) pending.records (length-map added pos);
     inside = subst (λ (n : News). All (λ (x : ChangedRecord). x.node < length (c RECORD ++ map new_columns new.news.nodes.items)) n.records.items) (sym grows.news) inside;
   }
+
+  pub widened_history : v.past ≡ [] → old.rows.seals < 2 ^ 62 → (t : TreeValue) (es : List PastEpoch) → HasHistory before t es v → HasHistory (after_batch c (batch_of new.news)) t es next
+  widened_history fresh small t es h =
+      let here : column old.rows.seals ≡ pos (length (before SEAL)) =
+      (let fits : min old.rows.seals (2 ^ 63 - 1) ≡ length (before SEAL) = omega (arith, small, pending.marked.seals) in ap pos fits) in
+      let of : All (IsOf (length (before SEAL))) b.nodes = subst (λ e. All (λ (r : NodeRow). r.epoch ≡ e) b.nodes) here (of_epoch (column old.rows.seals) (map pos added)) in
+      subst (λ x. HasHistory (after_batch c x) t es next) (sym whole)
+      (history_joined c (batch_of old.news) b t es next pending.inside (history_widens before b t es v added h none fresh news of))

@@ -1,25 +1,29 @@
 -- What stays in a store while rows are added behind it.
-use Rattle.std.proofs.Common.{◌≡◌, ◌∙◌, ℕ, zero, suc, ◌+◌, ◌-◌, ◌<◌, ◌≤◌, ◌⊎◌, ℤ, pos, List, [], ◌∷◌, ◌++◌, length, map, take, drop, refl, sym, ap, subst, inl, inr, arith, Some, slice_get}
-use Rattle.std.proofs.lemmas.List.{append-nil, length-append, length-map, drop-append-le, take-append-le, length-drop}
+use Rattle.std.proofs.Common.{◌≡◌, ◌∙◌, ℕ, zero, suc, ◌-◌, ◌<◌, ◌≤◌, ◌⊎◌, ℤ, pos, List, [], ◌∷◌, ◌++◌, length, map, take, drop, refl, sym, ap, subst, inl, inr, arith, Some, slice_get}
+use Rattle.std.specs.Prelude.{All}
+use Rattle.std.proofs.lemmas.List.{append-nil, append_assoc, length-append, length-map, map-append, drop-append-le, take-append-le, length-drop}
+use Rattle.std.proofs.lemmas.List.Elements.{All-append}
 use Rattle.std.proofs.lemmas.Option.{slice_get_within}
 use Rattle.sqlite_value.specs.Order.{Row}
 use Rattle.tl_tree.specs.Records.{Records}
 use Rattle.tl_tree.specs.Trees.{TreeValue}
 use Rattle.tl_core.specs.Cores.{CoreValue}
 use Rattle.tl_ledger.specs.declared.founding.Founding.{Founding}
+use Rattle.tl_ledger.specs.declared.rows.NodeRow.{NodeRow}
 use Rattle.tl_ledger.specs.declared.rows.RecordRow.{RecordRow}
 use Rattle.tl_ledger.specs.declared.rows.SealRow.{SealRow}
-use Rattle.tl_ledger.specs.declared.schema.TheConstants.{PROCEDURE, CALL, TURN, REPLY, SEAL, OPENING}
+use Rattle.tl_ledger.specs.declared.schema.TheConstants.{PROCEDURE, CALL, TURN, REPLY, SEAL}
 use Rattle.tl_ledger.specs.Contents.{Contents, no_contents}
-use Rattle.tl_ledger.specs.News.{fields_columns, record_columns, after_founding, procedure_columns, call_columns, turn_columns, reply_columns, seal_columns}
+use Rattle.tl_ledger.specs.News.{fields_columns, node_columns, record_columns, after_founding, procedure_columns, call_columns, turn_columns, reply_columns, seal_columns}
 use Rattle.tl_rows.specs.Batches.{Batch, after_batch}
 use Rattle.tl_rows.specs.Rows.{fields_in}
-use Rattle.tl_compare.specs.Epochs.{AreBetween, IsSealAt, IsSealBefore, AreEpochRows, AreOfEpoch}
+use Rattle.tl_compare.specs.Epochs.{AreBetween, IsSealBefore, AreEpochRows, AreOfEpoch}
 use Rattle.tl_compare.specs.declared.reading.EpochRows.{EpochRows}
+use Rattle.tl_store_history.specs.Sealed.{IsOf, IsToCome, HasNodes, HasSealed}
 use Rattle.tl_store_history.specs.History.{PastEpoch, TakesOver, AreInLine, left_by, parents_after, records_after, HasEpoch, IsHistoryOf}
 
 -- what stands in some rows stands there with rows behind them
-at_longer : {X : Type 0} (xs ys : List X) (n : ℕ) (x : X) → slice_get xs n ≡ Some x → slice_get (xs ++ ys) n ≡ Some x
+pub at_longer : {X : Type 0} (xs ys : List X) (n : ℕ) (x : X) → slice_get xs n ≡ Some x → slice_get (xs ++ ys) n ≡ Some x
 at_longer [] ys n x at = absurd cc
 at_longer (z ∷ xs) ys zero x at = at
 at_longer (z ∷ xs) ys (suc n) x at = at_longer xs ys n x at
@@ -85,23 +89,52 @@ module _ (c : Contents) (b : Batch) where
     are_replies = has.are_replies;
   }
 
-  pub history_stays : (t : TreeValue) (es : List PastEpoch) → IsHistoryOf c t es → b.seals ≡ [] → IsHistoryOf now t es
-  history_stays t es history none = record {
+  pub nodes_stay : (epoch : ℕ) (nodes : List NodeRow) → All (IsToCome epoch) b.nodes → HasNodes c epoch nodes → HasNodes now epoch nodes
+  nodes_stay epoch nodes come has = record {
+    others = has.others ++ b.nodes;
+    all = ap (λ l. l ++ map node_columns b.nodes) has.all ∙ sym (map-append node_columns (nodes ++ has.others) b.nodes) ∙ ap (map node_columns) (append_assoc nodes has.others b.nodes);
+    there = has.there;
+    to_come = All-append (IsToCome epoch) has.others b.nodes has.to_come come;
+  }
+
+  -- nodes that are appended come after each sealed epoch
+  pub sealed_stays : (epoch : ℕ) (v : CoreValue) → epoch < length (c SEAL) → All (IsOf (length (c SEAL))) b.nodes → HasSealed c epoch v → HasSealed now epoch v
+  sealed_stays epoch v less of has = record {
+    rows = has.rows;
+    there = record {
+      first = has.there.first;
+      last = has.there.last;
+      before = before_longer epoch has.there.first has.there.before;
+      seal = at_longer (c SEAL) (map seal_columns b.seals) epoch (seal_columns has.there.last) has.there.seal;
+      nodes = nodes_stay epoch has.rows.nodes (λ k d inside. (length (c SEAL), of k d inside, less)) has.there.nodes;
+      procedures = between_longer procedure_columns (c PROCEDURE) (map procedure_columns b.procedures) (pos 0) has.there.last.procedures has.rows.procedures has.there.procedures;
+      new = has.there.new;
+      new_are = between_longer procedure_columns (c PROCEDURE) (map procedure_columns b.procedures) has.there.first.procedures has.there.last.procedures has.there.new has.there.new_are;
+      calls = between_longer call_columns (c CALL) (map call_columns b.calls) has.there.first.calls has.there.last.calls has.rows.calls has.there.calls;
+      turns = between_longer turn_columns (c TURN) (map turn_columns b.turns) has.there.first.turns has.there.last.turns has.rows.turns has.there.turns;
+      replies = between_longer reply_columns (c REPLY) (map reply_columns b.replies) has.there.first.replies has.there.last.replies has.rows.replies has.there.replies;
+    };
+    right = has.right;
+    replied = has.replied;
+  }
+
+  pub history_stays : (t : TreeValue) (es : List PastEpoch) → IsHistoryOf c t es → b.seals ≡ [] → All (IsOf (length (c SEAL))) b.nodes → IsHistoryOf now t es
+  history_stays t es history none of = record {
     opening = history.opening;
     many = ap (λ l. length (c SEAL ++ map seal_columns l)) none ∙ ap length (append-nil (c SEAL)) ∙ history.many;
     line = history.line;
-    each = λ n e at. epoch_stays n e.core (history.each n e at);
+    each = λ n e at. sealed_stays n e.core (let inside = slice_get_within es n e at in omega (arith, inside, history.many)) of (history.each n e at);
   }
 
-  pub history_longer : (t : TreeValue) (es : List PastEpoch) (e : PastEpoch) → IsHistoryOf c t es → length b.seals ≡ 1
-      → TakesOver (parents_after t.parents es) (records_after t.records es) e → HasEpoch now (length es) e.core → IsHistoryOf now t (es ++ e ∷ [])
-  history_longer t es e history one takes has = record {
+  pub history_longer : (t : TreeValue) (es : List PastEpoch) (e : PastEpoch) → IsHistoryOf c t es → length b.seals ≡ 1 → All (IsOf (length (c SEAL))) b.nodes
+      → TakesOver (parents_after t.parents es) (records_after t.records es) e → HasSealed now (length es) e.core → IsHistoryOf now t (es ++ e ∷ [])
+  history_longer t es e history one of takes has = record {
     opening = history.opening;
     many = omega (arith, history.many, length-append (c SEAL) (map seal_columns b.seals), length-map b.seals seal_columns, one, length-append es (e ∷ []));
     line = line_longer t.parents t.records es e history.line takes;
     each = λ n f at. elim (one_of es e n f at) [
-      | inl old ↦ epoch_stays n f.core (history.each n f old)
-      | inr new ↦ subst (λ k. HasEpoch now k f.core) (sym new.0) (subst (λ (x : PastEpoch). HasEpoch now (length es) x.core) new.1 has)
+      | inl old ↦ sealed_stays n f.core (let inside = slice_get_within es n f old in omega (arith, inside, history.many)) of (history.each n f old)
+      | inr new ↦ subst (λ k. HasSealed now k f.core) (sym new.0) (subst (λ (x : PastEpoch). HasSealed now (length es) x.core) new.1 has)
     ];
   }
 

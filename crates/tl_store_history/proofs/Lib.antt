@@ -1,2 +1,5 @@
 pub mod Kept
 pub mod Serial
+pub mod Whole
+pub mod Starts
+mod Compared

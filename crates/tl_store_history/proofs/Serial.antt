@@ -2,7 +2,6 @@
 use Rattle.std.proofs.Common.{◌≡◌, ◌∙◌, ℕ, List, [], ◌∷◌, ◌++◌, length, map, refl, sym, ap}
 use Rattle.tl_tree.specs.Records.{Records}
 use Rattle.tl_tree_locking.specs.Epochs.{run_each}
-use Rattle.tl_tree_locking.specs.History.{records_now}
 use Rattle.tl_tree_locking.specs.Order.{Agrees}
 use Rattle.tl_tree_locking.specs.World.{reply_of}
 use Rattle.tl_tree_locking.proofs.EpochsJoined.{serial-each}
@@ -10,7 +9,7 @@ use Rattle.tl_tree_locking.proofs.NoStandstill.{sound_history}
 use Rattle.tl_tree_locking.proofs.PlacedAgrees.{placed-agrees}
 use Rattle.tl_tree_locking.proofs.ReachedWorlds.{serial-agreeing}
 use Rattle.tl_core.specs.Cores.{world_of}
-use Rattle.tl_store_history.specs.History.{PastEpoch, TakesOver, AreInLine, with_zeros, left_by, order_of, run_epochs, replies_of, AreSerial}
+use Rattle.tl_store_history.specs.History.{PastEpoch, TakesOver, AreInLine, with_zeros, left_by, order_of, run_epochs, AreSerial}
 
 one_serial : (parents : List ℕ) (records : Records) (e : PastEpoch) → TakesOver parents records e
     → ((run_each (map (world_of e.core).meanings (order_of e.core)) (with_zeros (length e.added) records)).tree ≡ left_by e)

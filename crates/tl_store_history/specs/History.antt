@@ -1,11 +1,11 @@
--- What a store has of all the epochs that are sealed, and how they follow one another.
-use Rattle.std.specs.Prelude.{◌≡◌, ℕ, ℤ, pos, List, [], ◌∷◌, ◌++◌, replicate, length, map, Some, slice_get}
+-- What a store has of all its epochs, and how they follow one another.
+use Rattle.std.specs.Prelude.{◌≡◌, ◌<◌, ◌≤◌, ◌^◌, ◌⊎◌, ℕ, zero, suc, ℤ, pos, List, [], ◌∷◌, ◌++◌, All, replicate, length, map, true, Some, slice_get}
 use Rattle.tl_width.specs.Fields.{field_count}
 use Rattle.tl_tree.specs.Records.{Records}
 use Rattle.tl_tree.specs.Trees.{TreeValue}
 use Rattle.tl_tree_locking.specs.Alone.{SerialOutcome}
 use Rattle.tl_tree_locking.specs.Epochs.{run_each}
-use Rattle.tl_tree_locking.specs.History.{AllDone, records_now}
+use Rattle.tl_tree_locking.specs.History.{AllDone, is_done, records_now}
 use Rattle.tl_tree_locking.specs.Order.{placed}
 use Rattle.tl_tree_locking.specs.World.{reply_of}
 use Rattle.tl_core.specs.Cores.{CoreValue, world_of}
@@ -15,11 +15,16 @@ use Rattle.tl_ledger.specs.declared.rows.CallRow.{CallRow}
 use Rattle.tl_ledger.specs.declared.rows.TurnRow.{TurnRow}
 use Rattle.tl_ledger.specs.declared.rows.ReplyRow.{ReplyRow}
 use Rattle.tl_ledger.specs.declared.rows.SealRow.{SealRow}
-use Rattle.tl_ledger.specs.declared.schema.TheConstants.{PROCEDURE, CALL, TURN, REPLY, SEAL, OPENING}
+use Rattle.tl_ledger.specs.declared.schema.TheConstants.{PROCEDURE, CALL, TURN, REPLY, SEAL, OPENING, NAME}
 use Rattle.tl_ledger.specs.Contents.{Contents}
-use Rattle.tl_ledger.specs.News.{fields_columns, procedure_columns, call_columns, turn_columns, reply_columns}
+use Rattle.tl_ledger.specs.News.{fields_columns, procedure_columns, call_columns, turn_columns, reply_columns, seal_columns}
 use Rattle.tl_rows.specs.Rows.{AreLatest}
+use Rattle.tl_store.specs.Stored.{AreEntries}
+use Rattle.tl_store.specs.Closing.{HasReply}
 use Rattle.tl_compare.specs.Epochs.{IsSealAt, IsSealBefore, AreBetween, AreCallsOf, AreTurnsOf, AreRepliesOf}
+use Rattle.tl_rows.specs.Batches.{Batch}
+use Rattle.tl_store_laws.specs.Growing.{IsLedgerOf, IsNewsOf, IsSealOf}
+use Rattle.tl_store_history.specs.Sealed.{IsThere, HasSealed}
 
 -- ---- epochs, one after another
 
@@ -107,4 +112,51 @@ pub record IsHistoryOf (c : Contents) (t : TreeValue) (es : List PastEpoch) : Ty
   pub opening : c OPENING ≡ map fields_columns t.records
   pub many : length (c SEAL) ≡ length es
   pub line : AreInLine t.parents t.records es
-  pub each : (n : ℕ) (e : PastEpoch) → slice_get es n ≡ Some e → HasEpoch c n e.core
+  pub each : (n : ℕ) (e : PastEpoch) → slice_get es n ≡ Some e → HasSealed c n e.core
+
+-- ---- with the epoch that isn't sealed
+
+-- the core began with what the last of these epochs left, and with these nodes behind
+pub record GoesOnFrom (t : TreeValue) (es : List PastEpoch) (added : List ℕ) (v : CoreValue) : Type 0 where
+  pub parents : v.parents ≡ parents_after t.parents es ++ added
+  pub opening : v.opening ≡ with_zeros (length added) (records_after t.records es)
+
+-- each row of these tables is that of an entry
+pub record AreOfEntries (c : Contents) : Type 0 where
+  pub calls : AreEntries call_columns (c CALL) 0
+  pub turns : AreEntries turn_columns (c TURN) 0
+  pub replies : AreEntries reply_columns (c REPLY) 0
+  pub seals : AreEntries seal_columns (c SEAL) 0
+
+-- The contents are those of a store whose sealed epochs are these, from the first tree on, and whose rows behind the last seal are those of the core v. That one began
+-- with what the last epoch left, and each of its calls that is done has its reply there.
+pub record HasHistory (c : Contents) (t : TreeValue) (es : List PastEpoch) (v : CoreValue) : Type 0 where
+  pub history : IsHistoryOf c t es
+  pub ledger : IsLedgerOf c v
+  pub nodes : All (IsThere (length es)) ledger.rows.nodes
+  pub added : List ℕ
+  pub goes_on : GoesOnFrom t es added v
+  pub replied : (call : ℕ) → is_done call v.past ≡ true → HasReply ledger.rows.replies call
+  pub entries : AreOfEntries c
+
+-- each call that is done in w was done in v, or has its reply among these
+abbrev pub AreReplied : CoreValue → CoreValue → List ReplyRow → Type 0
+AreReplied v w replies = (call : ℕ) → is_done call w.past ≡ true → (is_done call v.past ≡ true) ⊎ HasReply replies call
+
+-- These rows say what came of the core v up to its end w, with a reply of each call that ended, and they have the seal of its epoch.
+pub record EndsEpoch (c : Contents) (v w : CoreValue) (n : Batch) : Type 0 where
+  pub news : IsNewsOf (length (c SEAL)) v w (record n { seals = []; records = [] })
+  pub replied : AreReplied v w n.replies
+  pub seal : IsSealOf c w n
+
+-- no table has more than 2^62 rows, and the records of the first tree and of the core have all fields
+pub record IsOfSize (c : Contents) (t : TreeValue) (v : CoreValue) : Type 0 where
+  pub few : (table : ℕ) → table < NAME → length (c table) ≤ 2 ^ 62
+  pub first_wide : All (λ fields. length fields ≡ field_count) t.records
+  pub wide : All (λ fields. length fields ≡ field_count) v.opening
+
+-- the core of the epoch: behind the sealed ones that is v
+abbrev pub core_at : List PastEpoch → CoreValue → ℕ → CoreValue
+core_at [] v n = v
+core_at (e ∷ es) v zero = e.core
+core_at (e ∷ es) v (suc n) = core_at es v n

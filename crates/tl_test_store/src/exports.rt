@@ -8,7 +8,7 @@ use std::slice;
 use std::test::Fail;
 use tl_audit::{Silent, audit_chain_after};
 use tl_export::{ExportFault, TrailTaker, export};
-use tl_ledger::{ChangedRecord, News, RecordRow, ReplyRow};
+use tl_ledger::{ChangedRecord, News, NodeRow, RecordRow, ReplyRow};
 use tl_rows::reply_row;
 use tl_serial_order::Order;
 use tl_store::StoreFault;
@@ -66,6 +66,34 @@ fn an_auditor_finds_the_trails_clean(rt: HostRuntime) -> Result<(), Fail> {
     let last = audited(alloc, Some(&sealed), &texts[1])?;
     assert_eq!(rt; (sealed.calls(), field_of(sealed.ends(), 1)), (2, 22));
     assert_eq!(rt; (last.calls(), field_of(last.ends(), 3)), (1, 4));
+    Ok(())
+}
+
+// A node below the root, which is there from the first epoch on.
+fn node_before_all_calls(alloc: Global) -> Result<News, Fail> {
+    let mut news = news_with(alloc, Vec::new(alloc), Vec::new(alloc));
+    news.nodes.push(NodeRow {
+        parent: 0,
+        epoch: 0,
+    })?;
+    Ok(news)
+}
+
+#[test]
+fn a_node_that_came_before_all_calls_has_zeros(rt: HostRuntime) -> Result<(), Fail> {
+    let alloc = rt.alloc();
+    let mut all = Vec::new(alloc);
+    all.push(node_before_all_calls(alloc)?)?;
+    for news in all_news(alloc)? {
+        all.push(news)?;
+    }
+    let (came, Texts { texts }) = exported(alloc, all.as_slice())?;
+    assert_eq!(rt; came, Ok(()));
+    assert!(rt; texts.len() == 2);
+    let sealed = audited(alloc, None, &texts[0])?;
+    let last = audited(alloc, Some(&sealed), &texts[1])?;
+    assert_eq!(rt; (sealed.ends().len(), field_of(sealed.ends(), 3)), (4, 0));
+    assert_eq!(rt; (last.ends().len(), field_of(last.ends(), 3)), (5, 4));
     Ok(())
 }
 

@@ -1,4 +1,3 @@
-use Rattle.std.proofs.Common.{refl, sym, ap, ◌∙◌}
 use Rattle.tl_store_history.proofs.Kept.{history_founded}
 use Rattle.tl_store_history.proofs.laws.history_begins.Goals as goal
 

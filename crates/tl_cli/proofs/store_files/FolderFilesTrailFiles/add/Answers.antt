@@ -4,8 +4,8 @@ use Rattle.tl_file_export.specs.Filed.{AreSoMany, with_more}
 use Rattle.tl_file_export.proofs.FiledLemmas.{so_many_more}
 use Rattle.tl_cli.proofs.store_files.FolderFilesTrailFiles.add.Goals as goal
 
-pub returns : goal.returns
-returns g c =
+pub returns-clause-files : goal.returns-clause-files
+returns-clause-files g c =
     let s = c.args.self.now in
     on_ok_weaker c.put_trail.result
     (λ longer ts files are.

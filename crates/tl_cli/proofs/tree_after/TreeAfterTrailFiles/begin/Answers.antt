@@ -5,8 +5,8 @@ use Rattle.tl_cli.specs.Epochs.{IsAfter}
 use Rattle.tl_file_export.proofs.FiledLemmas.{trails_begun}
 use Rattle.tl_cli.proofs.tree_after.TreeAfterTrailFiles.begin.Goals as goal
 
-pub returns : goal.returns
-returns g =
+pub returns-clause-files : goal.returns-clause-files
+returns-clause-files g =
     let s = g.see.new.self in
     on_ok_weaker g.see.result
     (λ more files after. subst (λ trails. IsAfter s.epoch s.seen s.tree trails) (sym (trails_begun g.args.trail.now files)) (more (trails_of files) after))
