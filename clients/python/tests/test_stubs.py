@@ -45,6 +45,8 @@ class Reading(unittest.TestCase):
 
     def test_nothing(self):
         self.assertEqual(declared_in("").procedures, ())
+        # A field whose number is computed has no name here, and never that of another one.
+        self.assertEqual(declared_in("const BASE = 1;\nfield a = 1 + BASE;\nfield b = BASE;\n// field c = 4;\nfield d = 3;").fields, {"d": 3})
 
 
 class Stubs(unittest.TestCase):

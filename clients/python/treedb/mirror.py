@@ -17,9 +17,10 @@ from .client import Client
 from .errors import Error, Refused, Unanswered
 from .follow import Follower, Position, Rows
 from .names import Names
+from .reading import declared_in
 from .restoring import Unfinished, restore
 
-__all__ = ["Fenced", "Mirror", "OtherStore", "fields_in", "follow_on", "main", "name_nodes", "show_fields"]
+__all__ = ["Fenced", "Mirror", "OtherStore", "follow_on", "main", "name_nodes", "show_fields"]
 
 WIDTH = 8
 FIELDS = [f"f{field}" for field in range(WIDTH)]
@@ -267,11 +268,6 @@ def show_fields(base: Any, schema: str, view: str, fields: dict[str, int]) -> No
         cursor.execute(f'create view "{schema}"."{view}" as select id, parent, name{shown}, epoch from "{schema}".node')
 
 
-def fields_in(text: str) -> dict[str, int]:
-    """The names of fields that a text of the procedure language declares."""
-    return {name: int(number) for name, number in re.findall(r"^\s*field\s+(\w+)\s*=\s*(\d+)", text, re.MULTILINE)}
-
-
 def follow_on(connect: Callable[[], Any], meet: Callable[[], Follower], schema: str, owner: str, once: bool = False, see: Callable[[Rows], None] | None = None) -> None:
     """Mirrors a server, through restarts of both sides. Ends where another mirror takes the tables over, where the server has another store, or with `once` as soon as all is there."""
     import psycopg
@@ -370,7 +366,7 @@ def run(given: argparse.Namespace) -> None:
             if given.command == "name":
                 name_nodes(base, given.schema, json.loads(pathlib.Path(given.names).read_text(encoding="utf-8")))
             else:
-                show_fields(base, given.schema, given.text.stem, fields_in(given.text.read_text(encoding="utf-8")))
+                show_fields(base, given.schema, given.text.stem, declared_in(given.text.read_text(encoding="utf-8")).fields)
 
 
 def main(words: list[str] | None = None) -> int:
